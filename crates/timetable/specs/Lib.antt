@@ -1,0 +1,4 @@
+pub mod Timetables
+pub mod Entries
+pub mod Rules
+pub mod Timed
