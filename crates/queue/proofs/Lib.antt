@@ -1,0 +1,3 @@
+pub mod Heaps
+pub mod Firsts
+pub mod Held

@@ -1,0 +1,5 @@
+mod Rings
+pub mod Marking
+mod Waiting
+mod Sets
+pub mod Whens
