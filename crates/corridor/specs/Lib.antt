@@ -1,0 +1,4 @@
+pub mod Corridor
+pub mod Curves
+pub mod Funnels
+pub mod Laws
