@@ -1,0 +1,6 @@
+pub mod Figured
+pub mod Sheet
+pub mod Formed
+pub mod Turns
+pub mod Ready
+pub mod Settling
