@@ -1,0 +1,2 @@
+mod Corridors
+pub mod Told
