@@ -1,0 +1,4 @@
+pub mod Points
+pub mod Blanks
+pub mod Counting
+mod Whens

@@ -1,0 +1,4 @@
+pub mod Evening
+pub mod Fitting
+pub mod Judgements
+pub mod Restarting
