@@ -1,0 +1,5 @@
+pub mod Front
+pub mod Lowest
+pub mod Only
+pub mod Scans
+pub mod Takes
