@@ -1,5 +1,7 @@
 //! A settled sheet printed as a book.
 
+#![tactic(auto)]
+
 ghost use Rattle.book.specs.Printing.{Answered, book_of};
 ghost use Rattle.numeral.specs.Texts.{written};
 ghost use Rattle.refusal.specs.Refusals.{refusal};

@@ -1,5 +1,7 @@
 //! Runs stored inputs of the book program and says of each whether the page agrees with the one stored beside it.
 
+#![tactic(auto)]
+
 use booking::page_for;
 use std::fs;
 

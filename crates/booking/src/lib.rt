@@ -1,5 +1,7 @@
 //! The book of a text of graph files: what the book program prints.
 
+#![tactic(auto)]
+
 ghost use Rattle.std.specs.Prelude.{◌≡◌, ◌<◌, ◌≤◌, length, IfOk, Err, string_bytes, MatchBool};
 ghost use Rattle.graph_file.specs.Loads.{answer_of, limits_of, load_of};
 ghost use Rattle.refusal.specs.declared.Refusal.{Refusal as RefusalT};

@@ -1,5 +1,7 @@
 //! The corridor rule: the label that stays between two curves and makes each step as long as it can.
 
+#![tactic(auto)]
+
 ghost use Rattle.std.specs.Prelude.{◌+◌, ◌<◌, List, length, MatchResult};
 ghost use Rattle.corridor.specs.Corridor.{Next, Stands};
 ghost use Rattle.corridor.specs.Curves.{Curves, Label, Written, curve_of, last};

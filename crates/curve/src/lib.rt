@@ -1,5 +1,7 @@
 //! Runs of points, and what is read between them.
 
+#![tactic(auto)]
+
 mod points;
 mod reading;
 

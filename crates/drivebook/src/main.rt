@@ -1,5 +1,7 @@
 //! Reads graph files on standard input and prints their drive-time book, or one line that says why there is none.
 
+#![tactic(auto)]
+
 use anyhow::anyhow;
 use booking::{MOST_BYTES, page_for};
 use std::io::{Read, Write};

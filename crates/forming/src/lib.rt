@@ -1,5 +1,7 @@
 //! Whether a sheet is well formed.
 
+#![tactic(auto)]
+
 mod labels;
 mod rows;
 mod sheets;

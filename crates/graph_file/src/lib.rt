@@ -3,6 +3,8 @@
 //! A text of 1 to 48 files in the layout that the ninth DIMACS challenge has for road graphs:
 //! file i gives each road its crossing time at minute i × spacing.
 
+#![tactic(auto)]
+
 mod machine;
 mod tables;
 

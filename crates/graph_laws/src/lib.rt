@@ -1,5 +1,7 @@
 //! What holds of graph files.
 
+#![tactic(auto)]
+
 ghost use Rattle.graph_laws.specs.Faults.{FrontDecides, NamesLine};
 ghost use Rattle.graph_laws.specs.Grammar.{TakesGraphFiles, TakesNothingElse};
 ghost use Rattle.graph_laws.specs.Overtaking.{LoadsGraphFiles, LoadsNothingElse, NamesLowestRoad, PointsInRoadOrder};

@@ -1,5 +1,7 @@
 //! What one line of a graph file says.
 
+#![tactic(auto)]
+
 ghost use Rattle.graph_line.specs.Statements.{arc_by, capped, problem_by, said, said_by};
 ghost use Rattle.numeral.specs.Decimals.{read_up_to};
 ghost use Rattle.std.specs.Str.{bytes_eq};

@@ -1,5 +1,7 @@
 //! Two networks as one.
 
+#![tactic(auto)]
+
 ghost use Rattle.joined.specs.Joining.{added, join, join_fault, place};
 ghost use Rattle.joined.specs.Joins.{JoinLaws, both_lawful};
 ghost use Rattle.refusal.specs.Refusals.{refusal};

@@ -1,5 +1,7 @@
 //! A work list that takes the node with the smallest key.
 
+#![tactic(auto)]
+
 mod by_key;
 mod list;
 mod node;

@@ -1,5 +1,7 @@
 //! The text of a book: labels laid out line by line.
 
+#![tactic(auto)]
+
 ghost use Rattle.std.specs.Prelude.{◌≡◌, ◌+◌, ◌*◌, ◌^◌, ◌<◌, ◌≤◌, length};
 ghost use Rattle.layout.specs.Layout.{body_text, field, header, layout, line_text, row_text};
 ghost use Rattle.layout.specs.Sheets.{RowFits, SheetFits, point_at, points, row_of, rows};

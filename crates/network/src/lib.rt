@@ -1,5 +1,7 @@
 //! Road networks.
 
+#![tactic(auto)]
+
 mod judging;
 mod lent;
 mod meaning;

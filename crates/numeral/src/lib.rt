@@ -1,5 +1,7 @@
 //! Texts of bytes: decimal numbers written, measured, read and compared; lines told apart.
 
+#![tactic(auto)]
+
 ghost use Rattle.std.specs.Prelude.{◌≡◌, ◌+◌, ◌^◌, ◌<◌, ◌≤◌, true, ◌∷◌, length, Some, None, decimal, MatchOption, nat_le};
 ghost use Rattle.numeral.specs.Decimals.{ReadsWhatIsWritten, WritesWhatIsRead, number_of, numeral, read_on, read_up_to};
 ghost use Rattle.numeral.specs.Texts.{cut, lines, written};

@@ -1,5 +1,7 @@
 //! A priority queue over lent slots, for every kind of entry whose order is total.
 
+#![tactic(auto)]
+
 mod count;
 mod entry;
 mod heap;

@@ -1,5 +1,7 @@
 //! Why a call is refused: each refusal has a number, and some have places.
 
+#![tactic(auto)]
+
 ghost use Rattle.refusal.specs.Refusals.{number, places};
 ghost use Rattle.std.specs.Prelude.{◌≡◌};
 

@@ -1,5 +1,7 @@
 //! Relaxing a road: the label of its head, by the corridor that the road leaves to it.
 
+#![tactic(auto)]
+
 mod sampling;
 mod step;
 

@@ -1,5 +1,7 @@
 //! Labels as rows of numbers: how many points, then a departure and an arrival for each.
 
+#![tactic(auto)]
+
 ghost use Rattle.std.specs.Prelude.{◌≡◌, ℕ, ◌+◌, ◌*◌, ◌^◌, ◌<◌, ◌≤◌, List, length, take, drop, slice_index};
 ghost use Rattle.rows.specs.Rows.{laid_out, points, width};
 

@@ -1,5 +1,7 @@
 //! What calls on a sheet do, as relations over what a network and a work list mean.
 
+#![tactic(auto)]
+
 ghost use Rattle.std.specs.Prelude.{◌≡◌, ◌*◌, ◌<◌, ◌≤◌, length};
 ghost use Rattle.rows.specs.Rows.{width};
 ghost use Rattle.runs.specs.Figured.{Right};

@@ -1,5 +1,7 @@
 //! Sheets: a heading, a row of numbers for each node and a mark for each road.
 
+#![tactic(auto)]
+
 mod asks;
 mod heading;
 mod judging;

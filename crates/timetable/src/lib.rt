@@ -1,5 +1,7 @@
 //! Networks whose roads open by a timetable.
 
+#![tactic(auto)]
+
 mod judging;
 mod tables;
 mod theorems;

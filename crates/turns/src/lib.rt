@@ -1,5 +1,7 @@
 //! Turns of the nodes that wait, for every network and every work list.
 
+#![tactic(auto)]
+
 mod turning;
 mod working;
 

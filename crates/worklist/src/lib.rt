@@ -1,5 +1,7 @@
 //! Work lists: the nodes whose turn is still to come.
 
+#![tactic(auto)]
+
 mod fifo;
 mod list;
 mod ring;

@@ -18,4 +18,4 @@ overflow-add-result c =
 
 pub returns : goal.returns
 unfolding between
-returns c = record { reads-the-line = refl }
+returns c = record { reads_the_line = refl }

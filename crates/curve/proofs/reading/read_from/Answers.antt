@@ -19,9 +19,9 @@ overflow-add-result c =
 pub returns-then-i-points : goal.returns-then-i-points
 returns-then-i-points c =
     let e = reads_between c.args.points.now c.args.i c.args.x c.requires.climbing (omega arith) c.requires.from (c.requires.to (omega arith)) in
-    record { reads-the-run = cc }
+    record { reads_the_run = cc }
 
 pub returns-else-i-points : goal.returns-else-i-points
 returns-else-i-points c =
     let e = reads_past c.args.points.now c.args.i c.args.x c.requires.climbing (omega arith) c.requires.from in
-    record { reads-the-run = omega (arith, e, c.saturating-sub.ensures) }
+    record { reads_the_run = omega (arith, e, c.saturating_sub.ensures) }

@@ -8,5 +8,5 @@ loop-t-preserved c = (
   λ h. omega (arith, c.advance-i.ensures.to h),
   below_more _ _
       (λ k h. let ne : k ≢ c.loop-t.t = omega arith in rw get_or-set_other (c.loop-t.invariant.3 k h))
-      (let lt : c.loop-t.t < length c.loop-t.out = omega arith in rw get_or-set_same c.read-from.ensures.reads-the-run),
+      (let lt : c.loop-t.t < length c.loop-t.out = omega arith in rw get_or-set_same c.read_from.ensures.reads_the_run),
 )
