@@ -8,7 +8,7 @@ use super::meaning::Network;
 
 /// Every network keeps the laws.
 pub fn laws_stand<N: Network>(net: &N) -> u8
-    ensures lawful { Lawful (means net.now) }
+    ensures lawful { Lawful (N.Network.means net.now) }
 {
     0
 }
@@ -16,8 +16,8 @@ pub fn laws_stand<N: Network>(net: &N) -> u8
 /// In every network, whoever sets out later on a route is not at its end earlier, and each road of it
 /// takes 1 to 10,000 minutes.
 pub fn routes_stand<N: Network>(net: &N) -> u8
-    ensures no_overtaking_along_routes { KeepsOrder (means net.now) }
-    ensures minutes_within_bounds { KeepsPace (means net.now) }
+    ensures no_overtaking_along_routes { KeepsOrder (N.Network.means net.now) }
+    ensures minutes_within_bounds { KeepsPace (N.Network.means net.now) }
 {
     0
 }

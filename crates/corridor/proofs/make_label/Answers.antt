@@ -8,7 +8,7 @@ loop-out-preserved c =
     let out = c.loop-out.out in
     let k = c.loop-out.k in
     let room : k + 1 < length out = omega arith in
-    let more = written_more _ _ c.requires.curves out k c.next-point.result room c.loop-out.invariant.1 c.next-point.ensures.next_of_all in
+    let more = written_more _ _ c.requires.curves out k c.next_point.result room c.loop-out.invariant.1 c.next_point.ensures.next_of_all in
     (simp length-set room, more.0, more.1, kept_more _ out (k + 1) _ c.loop-out.invariant.3)
 
 pub returns : goal.returns

@@ -6,7 +6,7 @@ pub returns : goal.returns
 returns c =
     let Low : ℕ → ℕ → ℕ → Type 0 = λ n m v. v * m ≤ n * (c.args.s - c.args.from.departure) in
     let meet = c.meet.ensures in
-    let rise = c.saturating-sub.ensures in
+    let rise = c.saturating_sub.ensures in
     record {
       seen_one_more = seen_more _ _ _ _ _ c.requires.seen c.requires.place.later c.meet.result meet.positive
           (λ n m p h. let both = meet.admits_both n m p h in (both.0, (subst (Low n m) rise both.1.0, both.1.1)))

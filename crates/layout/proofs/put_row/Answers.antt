@@ -17,12 +17,12 @@ one cells node k = line_text node (point_at cells k)
 pub loop-k-init : goal.loop-k-init
 loop-k-init c = (omega arith, written_none c.args.start c.args.buffer.now)
 
-pub put-line-place-requires : goal.put-line-place-requires
-put-line-place-requires c =
+pub put_line-place-requires : goal.put_line-place-requires
+put_line-place-requires c =
     let cells = c.args.row.now in
     let node = c.args.node in
     let fits = piece_fits (before cells node) (one cells node) (row_more node cells) c.loop-k.k (get_or cells 0 0) (omega arith) in
-    omega (arith, ap (λ p. length (line_text node p)) c.point-at.ensures.reads_point)
+    omega (arith, ap (λ p. length (line_text node p)) c.point_at.ensures.reads_point)
 
 pub loop-k-preserved : goal.loop-k-preserved
 loop-k-preserved c =
@@ -32,6 +32,6 @@ loop-k-preserved c =
     let t = one cells node c.loop-k.k in
     let m = row_more node cells c.loop-k.k in
     let fits = piece_fits (before cells node) (one cells node) (row_more node cells) c.loop-k.k (get_or cells 0 0) (omega arith) in
-    let e = ap (line_text node) c.point-at.ensures.reads_point in
-    let w = written_on c.args.start s t c.args.buffer.now _ _ _ c.loop-k.invariant.1 c.loop-k.invariant.0 (c.put-line-place.ensures.writes-line-alone ∙ ap (λ x. written c.loop-k.place x c.loop-k.buffer) e) (omega arith) in
-    rw m (omega (arith, c.put-line-place.ensures.ends-after-line, ap length e, length-append s t), w)
+    let e = ap (line_text node) c.point_at.ensures.reads_point in
+    let w = written_on c.args.start s t c.args.buffer.now _ _ _ c.loop-k.invariant.1 c.loop-k.invariant.0 (c.put_line-place.ensures.writes_line_alone ∙ ap (λ x. written c.loop-k.place x c.loop-k.buffer) e) (omega arith) in
+    rw m (omega (arith, c.put_line-place.ensures.ends_after_line, ap length e, length-append s t), w)

@@ -17,15 +17,15 @@ one cells width v = row_text (v + 1) (points (row_of cells width v))
 pub loop-v-init : goal.loop-v-init
 loop-v-init c = (omega arith, written_none c.args.start c.args.buffer.now)
 
-pub row-at-requires : goal.row-at-requires
-row-at-requires c = row_inside c.loop-v.v c.args.nodes c.args.width _ (omega arith) c.requires.fits.inside
+pub row_at-requires : goal.row_at-requires
+row_at-requires c = row_inside c.loop-v.v c.args.nodes c.args.width _ (omega arith) c.requires.fits.inside
 
-pub put-row-place-requires : goal.put-row-place-requires
-put-row-place-requires c =
+pub put_row-place-requires : goal.put_row-place-requires
+put_row-place-requires c =
     let cells = c.args.cells.now in
     let fits = piece_fits (before cells c.args.width) (one cells c.args.width) (body_more cells c.args.width) c.loop-v.v c.args.nodes (omega arith) in
-    let e = ap (λ r. length (row_text (c.loop-v.v + 1) (points r))) c.row-at.ensures.takes-row in
-    record { fits = subst RowFits (sym c.row-at.ensures.takes-row) (c.requires.fits.rows_fit c.loop-v.v (omega arith)); room = omega arith }
+    let e = ap (λ r. length (row_text (c.loop-v.v + 1) (points r))) c.row_at.ensures.takes_row in
+    record { fits = subst RowFits (sym c.row_at.ensures.takes_row) (c.requires.fits.rows_fit c.loop-v.v (omega arith)); room = omega arith }
 
 pub loop-v-preserved : goal.loop-v-preserved
 loop-v-preserved c =
@@ -34,6 +34,6 @@ loop-v-preserved c =
     let t = one cells c.args.width c.loop-v.v in
     let m = body_more cells c.args.width c.loop-v.v in
     let fits = piece_fits (before cells c.args.width) (one cells c.args.width) (body_more cells c.args.width) c.loop-v.v c.args.nodes (omega arith) in
-    let e = ap (λ r. row_text (c.loop-v.v + 1) (points r)) c.row-at.ensures.takes-row in
-    let w = written_on c.args.start s t c.args.buffer.now _ _ _ c.loop-v.invariant.1 c.loop-v.invariant.0 (c.put-row-place.ensures.writes-row-alone ∙ ap (λ x. written c.loop-v.place x c.loop-v.buffer) e) (omega arith) in
-    rw m (omega (arith, c.put-row-place.ensures.ends-after-row, ap length e, length-append s t), w)
+    let e = ap (λ r. row_text (c.loop-v.v + 1) (points r)) c.row_at.ensures.takes_row in
+    let w = written_on c.args.start s t c.args.buffer.now _ _ _ c.loop-v.invariant.1 c.loop-v.invariant.0 (c.put_row-place.ensures.writes_row_alone ∙ ap (λ x. written c.loop-v.place x c.loop-v.buffer) e) (omega arith) in
+    rw m (omega (arith, c.put_row-place.ensures.ends_after_row, ap length e, length-append s t), w)

@@ -9,5 +9,5 @@ returns c =
     let lines = body_text 1 (rows c.args.cells.now c.args.width c.args.nodes) in
     record {
       ends_after_text = omega arith;
-      writes_text_alone = written_on 0 header lines c.args.buffer.now _ _ _ c.put-header-start.ensures.writes-header-alone c.put-header-start.ensures.ends-after-header c.put-rows.ensures.writes-rows-alone (omega arith);
+      writes_text_alone = written_on 0 header lines c.args.buffer.now _ _ _ c.put_header-start.ensures.writes_header_alone c.put_header-start.ensures.ends_after_header c.put_rows.ensures.writes_rows_alone (omega arith);
     }

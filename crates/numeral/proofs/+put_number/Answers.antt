@@ -12,14 +12,14 @@ returns-then-n-lt10 t c =
     let l : c.args.at < length c.args.buffer.now = omega (arith, ap length d) in
     record { ends_after_number = omega (arith, ap length d); writes_number_alone = rw d (written_byte c.args.at (48 + c.args.n) c.args.buffer.now l) }
 
-pub put-number-last-requires : goal.put-number-last-requires
-put-number-last-requires t c = omega (arith, length_step c.args.n (omega arith) (omega arith))
+pub put_number-last-requires : goal.put_number-last-requires
+put_number-last-requires t c = omega (arith, length_step c.args.n (omega arith) (omega arith))
 
 pub bounds-buffer-last : goal.bounds-buffer-last
 bounds-buffer-last t c = omega (arith, length_step c.args.n (omega arith) (omega arith))
 
-pub overflow-add-result-2 : goal.overflow-add-result-2
-overflow-add-result-2 t c = omega (arith, length_step c.args.n (omega arith) (omega arith))
+pub overflow_add-result-2 : goal.overflow_add-result-2
+overflow_add-result-2 t c = omega (arith, length_step c.args.n (omega arith) (omega arith))
 
 pub returns : goal.returns
 returns t c =
@@ -27,5 +27,5 @@ returns t c =
     let d = decimal_step c.args.n (omega arith) (omega arith) in
     record {
       ends_after_number = omega arith;
-      writes_number_alone = rw d (written_push c.args.at (decimal (c.args.n / 10)) (48 + c.args.n % 10) _ _ _ c.put-number-last.ensures.writes_number_alone c.put-number-last.ensures.ends_after_number (omega arith));
+      writes_number_alone = rw d (written_push c.args.at (decimal (c.args.n / 10)) (48 + c.args.n % 10) _ _ _ c.put_number-last.ensures.writes_number_alone c.put_number-last.ensures.ends_after_number (omega arith));
     }

@@ -4,15 +4,15 @@ use Rattle.curve.specs.Lines.{between_to}
 use Rattle.curve.specs.Runs.{climbs_tells}
 use Rattle.curve.proofs.reading.line_at.Goals as goal
 
-pub overflow-cast-result-2 : goal.overflow-cast-result-2
+pub overflow_cast-result-2 : goal.overflow_cast-result-2
 unfolding between
-overflow-cast-result-2 c =
+overflow_cast-result-2 c =
     let t = climbs_tells c.args.from c.args.to c.requires.climbs in
     omega (arith, between_to c.args.from c.args.to c.args.x t.0 t.1 c.requires.before)
 
-pub overflow-add-result : goal.overflow-add-result
+pub overflow_add-result : goal.overflow_add-result
 unfolding between
-overflow-add-result c =
+overflow_add-result c =
     let t = climbs_tells c.args.from c.args.to c.requires.climbs in
     omega (arith, between_to c.args.from c.args.to c.args.x t.0 t.1 c.requires.before)
 

@@ -3,18 +3,18 @@ use Rattle.curve.specs.Curve.{reads, span, no_point}
 use Rattle.curve.specs.Runs.{climbs_at, reads_between, reads_past}
 use Rattle.curve.proofs.reading.read_from.Goals as goal
 
-pub line-at-requires : goal.line-at-requires
-line-at-requires c =
+pub line_at-requires : goal.line_at-requires
+line_at-requires c =
     record {
       climbs = climbs_at c.args.points.now c.args.i c.requires.climbing (omega arith);
       after = c.requires.from;
       before = omega (arith, c.requires.to (omega arith));
     }
 
-pub overflow-add-result : goal.overflow-add-result
-overflow-add-result c =
+pub overflow_add-result : goal.overflow_add-result
+overflow_add-result c =
     let e = reads_past c.args.points.now c.args.i c.args.x c.requires.climbing (omega arith) c.requires.from in
-    omega (arith, e, c.requires.fits, c.saturating-sub.ensures)
+    omega (arith, e, c.requires.fits, c.saturating_sub.ensures)
 
 pub returns-then-i-points : goal.returns-then-i-points
 returns-then-i-points c =

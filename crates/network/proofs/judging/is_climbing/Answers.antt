@@ -4,10 +4,10 @@ use Rattle.curve.specs.Curve.{climbing}
 use Rattle.network.proofs.Walks.{climbing_more, climbing_all}
 use Rattle.network.proofs.judging.is_climbing.Goals as goal
 
-pub returns-then-not-is-climb : goal.returns-then-not-is-climb
-returns-then-not-is-climb c =
+pub returns-then-not-is_climb : goal.returns-then-not-is_climb
+returns-then-not-is_climb c =
     let e = climbing_more c.args.run.now c.loop-i.i (omega arith) c.loop-i-test.true in
-    record { as-ruled = grind (arith, nat_tests) }
+    record { as_ruled = grind (arith, nat_tests) }
 
 pub loop-i-preserved : goal.loop-i-preserved
 loop-i-preserved c =
@@ -20,4 +20,4 @@ loop-i-preserved c =
 pub returns : goal.returns
 returns c =
     let e = climbing_all c.args.run.now (c.loop-i.i - 1) (omega arith) in
-    record { as-ruled = cc }
+    record { as_ruled = cc }

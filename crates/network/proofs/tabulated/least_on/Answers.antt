@@ -4,8 +4,8 @@ use Rattle.network.proofs.Walks.{quickest_more, quickest_all}
 use Rattle.network.specs.Runs.{right_at, point_tells, right_tells}
 use Rattle.network.proofs.tabulated.least_on.Goals as goal
 
-pub overflow-sub-run : goal.overflow-sub-run
-overflow-sub-run c =
+pub overflow_sub-run : goal.overflow_sub-run
+overflow_sub-run c =
     let n = point_tells (get_or c.args.run.now c.loop-i.i no_point) (right_at c.args.run.now c.loop-i.i (right_tells c.args.run.now c.requires.right).points c.loop-i-test.true) in
     omega arith
 

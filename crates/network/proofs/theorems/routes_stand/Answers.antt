@@ -5,4 +5,4 @@ use Rattle.network.proofs.theorems.routes_stand.Goals as goal
 pub returns : goal.returns
 returns g c =
     let l = lawful_of g.N.Network c.args.net.now in
-    record { no-overtaking-along-routes = keeps_order _ l; minutes-within-bounds = keeps_pace _ l }
+    record { no_overtaking_along_routes = keeps_order _ l; minutes_within_bounds = keeps_pace _ l }

@@ -7,5 +7,5 @@ use Rattle.keyed.proofs.by_key.KeyedWorkList.is_empty.Goals as goal
 pub returns : goal.returns
 returns c =
     let l = c.args.self.now in
-    let is = c.is-empty.ensures.no-entry in
-    record { none-waits-or-some = when_from _ _ _ (λ e. none_waits l (grind (arith, nat_tests))) (λ e. some_waits l c.requires (λ none. grind (arith, nat_tests))) }
+    let is = c.is_empty.ensures.no_entry in
+    record { none_waits_or_some = when_from _ _ _ (λ e. none_waits l (grind (arith, nat_tests))) (λ e. some_waits l c.requires (λ none. grind (arith, nat_tests))) }

@@ -3,7 +3,7 @@ use Rattle.keyed.proofs.Waiting.{not_full, put_ready, puts}
 use Rattle.keyed.proofs.by_key.KeyedWorkList.put.Goals as goal
 
 pub unreachable-requires : goal.unreachable-requires
-unreachable-requires c = not_full c.args.self.now c.requires c.args.node c.if-node-self.false c.if-not-self-node.true c.in-default.ensures.gains_or_refuses.full
+unreachable-requires c = not_full c.args.self.now c.requires c.args.node c.if-node-self.false c.if-not-self-node.true c.in_default.ensures.gains_or_refuses.full
 
 pub returns-in-Ok : goal.returns-in-Ok
 returns-in-Ok c =

@@ -6,4 +6,4 @@ pub returns : goal.returns
 returns c =
     let new = c.new.ensures in
     let long = c.if-slots-lt-PLACES.false in
-    record { makes-or-refuses = (long, blank _ new.sound (omega (arith, new.room, long)) (omega arith) (omega arith) new.empty refl, omega arith, new.empty) }
+    record { makes_or_refuses = (long, blank _ new.sound (omega (arith, new.room, long)) (omega arith) (omega arith) new.empty refl, omega arith, new.empty) }

@@ -6,4 +6,4 @@ pub returns : goal.returns
 returns c =
     let cleared = c.clear.ensures in
     let range = c.requires.in_range in
-    record { ready = blank _ cleared.sound (omega (arith, cleared.room, c.requires.ready.space)) range.0 range.1 cleared.empty refl; bound-set = refl; nothing-waits = cleared.empty }
+    record { ready = blank _ cleared.sound (omega (arith, cleared.room, c.requires.ready.space)) range.0 range.1 cleared.empty refl; bound_set = refl; nothing_waits = cleared.empty }

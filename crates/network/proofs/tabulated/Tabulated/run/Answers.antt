@@ -4,8 +4,8 @@ use Rattle.network.specs.Tabled.{rule_at, points_at}
 use Rattle.network.proofs.Walks.{run_part}
 use Rattle.network.proofs.tabulated.Tabulated.run.Goals as goal
 
-pub slice-bounds-result-end : goal.slice-bounds-result-end
-slice-bounds-result-end c =
+pub slice_bounds-result-end : goal.slice_bounds-result-end
+slice_bounds-result-end c =
     let s = c.args.self.now in
     let r = rule_at s.nodes s.roads.now s.points.now s.accepted c.args.r c.requires.known in
     search rules

@@ -2,8 +2,8 @@ use Rattle.std.proofs.Common.{◌≡◌, ◌+◌, take, refl, ap, arith}
 use Rattle.queue.proofs.Heaps as heaps
 use Rattle.queue.proofs.heap.Queue.pop.Goals as goal
 
-pub sift-down-requires : goal.sift-down-requires
-sift-down-requires g c =
+pub sift_down-requires : goal.sift_down-requires
+sift_down-requires g c =
     let q = c.args.self.now in
     let one : c.in-Some.last + 1 ≡ q.len = omega (arith, c.in-Some.ensures) in
     record { within = omega (arith, one); loose = heaps.taken_loose g.T.Entry.before q.slots.now c.swap.new.self q.len c.in-Some.last one c.swap.ensures.by_index c.requires.ordered }
@@ -12,7 +12,7 @@ pub returns : goal.returns
 returns g c =
     let q = c.args.self.now in
     let xs = q.slots.now in
-    let down = c.sift-down in
+    let down = c.sift_down in
     let one : c.in-Some.last + 1 ≡ q.len = omega (arith, c.in-Some.ensures) in
     record {
       loses_or_lacks = record {

@@ -2,15 +2,15 @@ use Rattle.std.proofs.Common.{◌+◌, ◌∷◌, take, set, arith, length-set}
 use Rattle.queue.proofs.Heaps as heaps
 use Rattle.queue.proofs.heap.Queue.push.Goals as goal
 
-pub sift-up-requires : goal.sift-up-requires
-sift-up-requires g c =
+pub sift_up-requires : goal.sift_up-requires
+sift_up-requires g c =
     let q = c.args.self.now in
     record { within = simp length-set (omega arith); ordered = heaps.put_ordered g.T.Entry.before q.slots.now q.len c.args.entry c.requires.ordered }
 
 pub returns : goal.returns
 returns g c =
     let q = c.args.self.now in
-    let up = c.sift-up in
+    let up = c.sift_up in
     let long = length-set q.slots.now q.len c.args.entry in
     let bag = heaps.put_bag g.T.Entry.before q.slots.now (take (q.len + 1) up.new.s) q.len c.args.entry (omega arith) up.ensures.bag in
     record {

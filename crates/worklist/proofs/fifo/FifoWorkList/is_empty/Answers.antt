@@ -9,4 +9,4 @@ use Rattle.worklist.proofs.fifo.FifoWorkList.is_empty.Goals as goal
 pub returns : goal.returns
 returns c =
     let l = c.args.self.now in
-    record { none-waits-or-some = when_from _ _ _ (λ e. none_waits l (omega (arith, eqb-true _ _ e))) (λ e. some_waits l (omega (arith, eqb-false _ _ e))) }
+    record { none_waits_or_some = when_from _ _ _ (λ e. none_waits l (omega (arith, eqb-true _ _ e))) (λ e. some_waits l (omega (arith, eqb-false _ _ e))) }

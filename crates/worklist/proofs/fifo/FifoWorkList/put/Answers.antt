@@ -2,18 +2,18 @@ use Rattle.std.proofs.Common.{refl, arith, length-set}
 use Rattle.worklist.proofs.Waiting.{put_room, put_tally, put_marks, put_line}
 use Rattle.worklist.proofs.fifo.FifoWorkList.put.Goals as goal
 
-pub overflow-add-end : goal.overflow-add-end
-overflow-add-end c = let l = c.args.self.now in omega (arith, l.sizes, put_room l c.args.node c.if-node-self.false c.if-not-self-node.true)
+pub overflow_add-end : goal.overflow_add-end
+overflow_add-end c = let l = c.args.self.now in omega (arith, l.sizes, put_room l c.args.node c.if-node-self.false c.if-not-self-node.true)
 
-pub overflow-add-self : goal.overflow-add-self
-overflow-add-self c = omega (arith, put_room c.args.self.now c.args.node c.if-node-self.false c.if-not-self-node.true)
+pub overflow_add-self : goal.overflow_add-self
+overflow_add-self c = omega (arith, put_room c.args.self.now c.args.node c.if-node-self.false c.if-not-self-node.true)
 
-pub invariant-of-self : goal.invariant-of-self
-invariant-of-self c =
+pub invariant_of-self : goal.invariant_of-self
+invariant_of-self c =
     let l = c.args.self.now in
     let tally = put_tally l c.args.node c.if-node-self.false c.if-not-self-node.true in
     let told = put_marks l c.args.node c.if-node-self.false c.if-not-self-node.true in
-    ((l.sizes.0, l.sizes.1, l.sizes.2, simp length-set l.sizes.3, simp length-set l.sizes.4), (omega (arith, tally), (told.once, (told.below, tt))))
+    record { sizes = (l.sizes.0, l.sizes.1, l.sizes.2, simp length-set l.sizes.3, simp length-set l.sizes.4); tally = omega (arith, tally); once = told.once; below = told.below }
 
 pub returns-then-not-self-node : goal.returns-then-not-self-node
 returns-then-not-self-node c =

@@ -4,11 +4,11 @@ use Rattle.worklist.proofs.Rings.{around_none}
 use Rattle.worklist.proofs.Marking.{no_marks}
 use Rattle.worklist.proofs.ring.Fifo.idle.Goals as goal
 
-pub invariant-of-result : goal.invariant-of-result
+pub invariant_of-result : goal.invariant_of-result
 unfolding around
-invariant-of-result c =
+invariant_of-result c =
     let told = no_marks c.args.bound in
-    ((c.requires.in_range.0, c.requires.in_range.1, omega arith, refl, refl), (refl, (told.once, (told.below, tt))))
+    record { sizes = (c.requires.in_range.0, c.requires.in_range.1, omega arith, refl, refl); tally = refl; once = told.once; below = told.below }
 
 pub returns : goal.returns
-returns c = record { bound-set = refl; nothing-waits = around_none _ 0 }
+returns c = record { bound_set = refl; nothing_waits = around_none _ 0 }
