@@ -88,7 +88,7 @@ pub fn lowest_overtaken(points: &[Point], roads: u32, files: u32) -> u32
     requires few_files { files ≤ 48 }
     requires few_roads { roads ≤ 4096 }
     requires inside { roads * files ≤ length points.now }
-    ensures* lowest_that_falls { λ r. ⌜ r ≡ lowest_from (λ r. falls_from (λ i. (get_or points.now (r * files + i) no_point).arrival) 0 (files - 1)) 0 roads ⌝ }
+    ensures lowest_that_falls { result ≡ lowest_from (λ r. falls_from (λ i. (get_or points.now (r * files + i) no_point).arrival) 0 (files - 1)) 0 roads }
 {
     for r in 0..roads {
         if falls(points, r * files, files) {

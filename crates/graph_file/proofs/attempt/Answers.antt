@@ -6,19 +6,19 @@ use Rattle.std.proofs.Common.{◌∙◌, arith}
 
 pub returns-then-lowest-got : goal.returns-then-lowest-got
 returns-then-lowest-got c =
-    let got = c.in-ok-got.got in
-    let g = c.in-ok-got.ensures.reads-files in
-    let h = c.lay-out.ensures.lays-out g.arcs g.kept in
-    let n = c.lowest-overtaken-lowest.ensures.lowest-that-falls ∙ lowest_is got c.args.spacing g.arcs c.lay-out.new.table c.lay-out.new.points g.sized.some h in
-    record { attempts = overtaken c.args.limits c.args.spacing c.args.text.now got g.arcs c.lowest-overtaken-lowest.result (omega arith) (omega arith) g.said n c.if-lowest-got.true }
+    let got = c.in_ok-got.got in
+    let g = c.in_ok-got.ensures.reads_files in
+    let h = c.lay_out.ensures.lays_out g.arcs g.kept in
+    let n = c.lowest_overtaken-lowest.ensures.lowest_that_falls ∙ lowest_is got c.args.spacing g.arcs c.lay_out.new.table c.lay_out.new.points g.sized.some h in
+    record { attempts = overtaken c.args.limits c.args.spacing c.args.text.now got g.arcs c.lowest_overtaken-lowest.result (omega arith) (omega arith) g.said n c.if-lowest-got.true }
 
 pub returns : goal.returns
 returns c =
-    let got = c.in-ok-got.got in
-    let g = c.in-ok-got.ensures.reads-files in
-    let h = c.lay-out.ensures.lays-out g.arcs g.kept in
-    let n = c.lowest-overtaken-lowest.ensures.lowest-that-falls ∙ lowest_is got c.args.spacing g.arcs c.lay-out.new.table c.lay-out.new.points g.sized.some h in
-    let right : Right c.args.limits c.args.spacing got g.arcs c.lay-out.new.table c.lay-out.new.points =
+    let got = c.in_ok-got.got in
+    let g = c.in_ok-got.ensures.reads_files in
+    let h = c.lay_out.ensures.lays_out g.arcs g.kept in
+    let n = c.lowest_overtaken-lowest.ensures.lowest_that_falls ∙ lowest_is got c.args.spacing g.arcs c.lay_out.new.table c.lay_out.new.points g.sized.some h in
+    let right : Right c.args.limits c.args.spacing got g.arcs c.lay_out.new.table c.lay_out.new.points =
     record {
       apart = omega arith;
       near = omega arith;
@@ -32,8 +32,8 @@ returns c =
     record {
       attempts = record {
         arcs = g.arcs;
-        said = loads c.args.limits c.args.spacing c.args.text.now got g.arcs c.lowest-overtaken-lowest.result (omega arith) (omega arith) g.said n c.if-lowest-got.false;
+        said = loads c.args.limits c.args.spacing c.args.text.now got g.arcs c.lowest_overtaken-lowest.result (omega arith) (omega arith) g.said n c.if-lowest-got.false;
         holds = h;
-        keeps = keeps_rule c.args.limits c.args.spacing got g.arcs c.lay-out.new.table c.lay-out.new.points right;
+        keeps = keeps_rule c.args.limits c.args.spacing got g.arcs c.lay_out.new.table c.lay_out.new.points right;
       };
     }

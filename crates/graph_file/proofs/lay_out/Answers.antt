@@ -3,4 +3,4 @@ use Rattle.graph_file.proofs.lay_out.Goals as goal
 
 pub returns : goal.returns
 returns c =
-    record { lays-out = λ arcs kept. laid c.args.got c.args.spacing arcs c.args.table.now c.give-runs.new.table c.args.points.now c.spread.new.points c.stamp.new.points c.requires.waiting.some c.spread.ensures.writes-arrivals c.stamp.ensures.writes-departures c.give-runs.ensures.writes-runs kept }
+    record { lays_out = λ arcs kept. laid c.args.got c.args.spacing arcs c.args.table.now c.give_runs.new.table c.args.points.now c.spread.new.points c.stamp.new.points c.requires.waiting.some c.spread.ensures.writes_arrivals c.stamp.ensures.writes_departures c.give_runs.ensures.writes_runs kept }

@@ -12,13 +12,13 @@ loop-i-preserved c =
     let i = c.loop-i.i in
     let e : i + 1 - 1 ≡ i = omega arith in
     ap (λ (k : ℕ). climbing (drop k (points row))) e
-    ∙ climbs_on (points row) i _ _ c.point-at-from.ensures.point-read c.point-at-to.ensures.point-read c.loop-i.auto.i (omega (arith, count_points row)) c.if-to-from.false c.if-to-from-2.false
+    ∙ climbs_on (points row) i _ _ c.point_at-from.ensures.point_read c.point_at-to.ensures.point_read c.loop-i.auto.i (omega (arith, count_points row)) c.if-to-from.false c.if-to-from-2.false
     ∙ c.loop-i.invariant
 
 pub returns-then-to-from : goal.returns-then-to-from
 returns-then-to-from c =
     let row = c.args.row.now in
-    let falls = climbs_not (points row) c.loop-i.i _ _ c.point-at-from.ensures.point-read c.point-at-to.ensures.point-read c.loop-i.auto.i (omega (arith, count_points row)) in
+    let falls = climbs_not (points row) c.loop-i.i _ _ c.point_at-from.ensures.point_read c.point_at-to.ensures.point_read c.loop-i.auto.i (omega (arith, count_points row)) in
     record {
       climbs_or_not = elim c.then-to-from.branch [
         | then-to-from-via-then-to-from w ↦ falls (inl w.if-to-from.true) ∙ c.loop-i.invariant

@@ -6,7 +6,7 @@ use Rattle.rows.specs.Rows.{points}
 use Rattle.runs.proofs.Rows.{count_points}
 use Rattle.forming.proofs.Whens.{when_map, when_not}
 use Rattle.forming.proofs.labels.is_label.Goals as goal
-use Rattle.forming.proofs.labels.is_label.Goals.{then-count-lt2-via-then-count-lt2, then-count-lt2-via-else-count-lt2+then-point-at-ne0, then-count-lt2-via-else-count-lt2+else-point-at-ne0+then-point-at-window}
+use Rattle.forming.proofs.labels.is_label.Goals.{then-count-lt2-via-then-count-lt2, then-count-lt2-via-else-count-lt2+then-point_at-ne0, then-count-lt2-via-else-count-lt2+else-point_at-ne0+then-point_at-window}
 
 -- the departure of the point that was read at index k
 set_out : (row : List ℕ) (k i : ℕ) (p : Point) → p ≡ get_or (points row) i no_point → k ≡ i → p.departure ≡ (get_or (points row) k no_point).departure
@@ -22,31 +22,31 @@ returns-then-count-lt2 c =
     record {
       label_or_not = λ lab. elim c.then-count-lt2.branch [
         | then-count-lt2-via-then-count-lt2 w ↦ omega (arith, lab.two, count_points row, w.if-count-lt2.true)
-        | then-count-lt2-via-else-count-lt2+then-point-at-ne0 w ↦
-            w.if-point-at-ne0.true (set_out row 0 0 _ w.point-at.ensures.point-read (omega arith) ∙ lab.starts)
-        | then-count-lt2-via-else-count-lt2+else-point-at-ne0+then-point-at-window w ↦
-            w.if-point-at-window.true (set_out row _ _ _ w.point-at-else-point-at-ne0.ensures.point-read (last_at row) ∙ lab.ends)
+        | then-count-lt2-via-else-count-lt2+then-point_at-ne0 w ↦
+            w.if-point_at-ne0.true (set_out row 0 0 _ w.point_at.ensures.point_read (omega arith) ∙ lab.starts)
+        | then-count-lt2-via-else-count-lt2+else-point_at-ne0+then-point_at-window w ↦
+            w.if-point_at-window.true (set_out row _ _ _ w.point_at-else-point_at-ne0.ensures.point_read (last_at row) ∙ lab.ends)
       ];
     }
 
-pub returns-then-is-climbing : goal.returns-then-is-climbing
-returns-then-is-climbing c =
+pub returns-then-is_climbing : goal.returns-then-is_climbing
+returns-then-is_climbing c =
     let row = c.args.row.now in
     record {
-      label_or_not = when_map c.is-prompt.result
+      label_or_not = when_map c.is_prompt.result
           (λ h. record {
             two = omega (arith, count_points row);
-            climbs = sym c.if-is-climbing.ensures.climbs_or_not;
-            starts = sym (set_out row 0 0 _ c.point-at.ensures.point-read (omega arith)) ∙ c.if-point-at-ne0.false;
-            ends = sym (set_out row _ _ _ c.point-at-else-point-at-ne0.ensures.point-read (last_at row)) ∙ c.if-point-at-window.false;
+            climbs = sym c.if-is_climbing.ensures.climbs_or_not;
+            starts = sym (set_out row 0 0 _ c.point_at.ensures.point_read (omega arith)) ∙ c.if-point_at-ne0.false;
+            ends = sym (set_out row _ _ _ c.point_at-else-point_at-ne0.ensures.point_read (last_at row)) ∙ c.if-point_at-window.false;
             prompt = h.after;
             early = h.before;
           })
           (λ no lab. no (record { after = lab.prompt; before = lab.early }))
-          c.is-prompt.ensures.prompt_or_not;
+          c.is_prompt.ensures.prompt_or_not;
     }
 
-pub returns-else-is-climbing : goal.returns-else-is-climbing
-returns-else-is-climbing c = record {
-  label_or_not = when_not _ _ c.is-climbing.result c.if-is-climbing.false (λ lab. both_ways _ (sym c.if-is-climbing.ensures.climbs_or_not) lab.climbs);
+pub returns-else-is_climbing : goal.returns-else-is_climbing
+returns-else-is_climbing c = record {
+  label_or_not = when_not _ _ c.is_climbing.result c.if-is_climbing.false (λ lab. both_ways _ (sym c.if-is_climbing.ensures.climbs_or_not) lab.climbs);
 }

@@ -6,7 +6,7 @@ use Rattle.forming.proofs.labels.is_prompt.Goals.{then-point-via-then-point, the
 
 pub loop-i-preserved : goal.loop-i-preserved
 loop-i-preserved c =
-    let is = c.point-at-point.ensures.point-read in
+    let is = c.point_at-point.ensures.point_read in
     let d = ap (λ (p : Point). p.departure) is in
     let a = ap (λ (p : Point). p.arrival) is in
     below_more _ _ c.loop-i.invariant (omega (arith, d, a), omega (arith, a))
@@ -14,7 +14,7 @@ loop-i-preserved c =
 pub returns-then-point : goal.returns-then-point
 returns-then-point c =
     let i = c.loop-i.i in
-    let is = c.point-at-point.ensures.point-read in
+    let is = c.point_at-point.ensures.point_read in
     let d = ap (λ (p : Point). p.departure) is in
     let a = ap (λ (p : Point). p.arrival) is in
     let long = count_points c.args.row.now in

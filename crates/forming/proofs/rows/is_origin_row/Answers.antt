@@ -20,7 +20,7 @@ pub returns : goal.returns
 returns c =
     let row = c.args.row.now in
     record {
-      diagonal_or_not = when_map c.is-zero.result
+      diagonal_or_not = when_map c.is_zero.result
           (λ z. diagonal_made c.args.places c.args.window row c.requires.two c.requires.whole (record {
             two = c.if-row-ne2.false;
             leaves = c.if-row-ne0.false;
@@ -30,5 +30,5 @@ returns c =
             rest = zero_part row 5 z;
           }))
           (λ none e. none (zero_part⁻ row 5 (diagonal_tells _ _ row e).rest))
-          c.is-zero.ensures.zero_or_not;
+          c.is_zero.ensures.zero_or_not;
     }

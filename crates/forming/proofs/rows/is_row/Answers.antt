@@ -3,7 +3,7 @@ use Rattle.std.proofs.lemmas.Bool.{eq-eqb}
 use Rattle.forming.proofs.Blanks.{zero_part, zero_part⁻, holds_label, is_blank, row_tells}
 use Rattle.forming.proofs.Whens.{when_map, when_so}
 use Rattle.forming.proofs.rows.is_row.Goals as goal
-use Rattle.forming.proofs.rows.is_row.Goals.{then-count-places-via-then-count-places, then-count-places-via-else-count-places+then-not-is-zero}
+use Rattle.forming.proofs.rows.is_row.Goals.{then-count-places-via-then-count-places, then-count-places-via-else-count-places+then-not-is_zero}
 
 pub returns-then-count-places : goal.returns-then-count-places
 returns-then-count-places c = record {
@@ -11,7 +11,7 @@ returns-then-count-places c = record {
       let tells = row_tells _ _ _ c.args.row.now h in
       elim c.then-count-places.branch [
         | then-count-places-via-then-count-places w ↦ omega (arith, tells.few, w.if-count-places.true)
-        | then-count-places-via-else-count-places+then-not-is-zero w ↦ w.if-not-is-zero.ensures.zero_or_not (zero_part⁻ c.args.row.now _ tells.rest)
+        | then-count-places-via-else-count-places+then-not-is_zero w ↦ w.if-not-is_zero.ensures.zero_or_not (zero_part⁻ c.args.row.now _ tells.rest)
       ];
 }
 
@@ -20,15 +20,15 @@ returns-then-count-eq0 c =
     let row = c.args.row.now in
     record {
       row_or_not = when_so _ _ _ (eq-eqb _ _ c.if-count-eq0.true)
-          (is_blank c.args.places row c.requires.whole _ _ c.if-count-eq0.true (zero_part row _ c.if-not-is-zero.ensures.zero_or_not));
+          (is_blank c.args.places row c.requires.whole _ _ c.if-count-eq0.true (zero_part row _ c.if-not-is_zero.ensures.zero_or_not));
     }
 
 pub returns-else-count-eq0 : goal.returns-else-count-eq0
 returns-else-count-eq0 c =
     let row = c.args.row.now in
     record {
-      row_or_not = when_map c.is-label.result
-          (λ lab. holds_label c.args.places row c.requires.whole _ _ c.if-count-places.false (zero_part row _ c.if-not-is-zero.ensures.zero_or_not) lab)
+      row_or_not = when_map c.is_label.result
+          (λ lab. holds_label c.args.places row c.requires.whole _ _ c.if-count-places.false (zero_part row _ c.if-not-is_zero.ensures.zero_or_not) lab)
           (λ none h. none ((row_tells _ _ _ row h).label c.if-count-eq0.false))
-          c.is-label.ensures.label_or_not;
+          c.is_label.ensures.label_or_not;
     }

@@ -3,15 +3,15 @@ use Rattle.runs.specs.Formed.{Row}
 use Rattle.runs.proofs.Rows.{row_length}
 use Rattle.forming.proofs.sheets.are_rows.Goals as goal
 
-pub is-row-requires : goal.is-row-requires
-is-row-requires c = record { whole = ap length c.row-of-row.ensures.row-is ∙ row_length c.args.figures.places c.args.figures.nodes c.loop-node.node c.args.rows.now c.requires.room c.loop-node-test.true }
+pub is_row-requires : goal.is_row-requires
+is_row-requires c = record { whole = ap length c.row_of-row.ensures.row_is ∙ row_length c.args.figures.places c.args.figures.nodes c.loop-node.node c.args.rows.now c.requires.room c.loop-node-test.true }
 
 pub loop-node-preserved : goal.loop-node-preserved
-loop-node-preserved c = below_more _ _ c.loop-node.invariant (subst (Row c.args.figures.places c.args.figures.window c.args.limit) c.row-of-row.ensures.row-is c.if-not-is-row.ensures.row_or_not)
+loop-node-preserved c = below_more _ _ c.loop-node.invariant (subst (Row c.args.figures.places c.args.figures.window c.args.limit) c.row_of-row.ensures.row_is c.if-not-is_row.ensures.row_or_not)
 
-pub returns-then-not-is-row : goal.returns-then-not-is-row
-returns-then-not-is-row c = record {
-  rows_or_not = λ h. c.if-not-is-row.ensures.row_or_not (subst (Row c.args.figures.places c.args.figures.window c.args.limit) (sym c.row-of-row.ensures.row-is) (h c.loop-node.node c.loop-node-test.true));
+pub returns-then-not-is_row : goal.returns-then-not-is_row
+returns-then-not-is_row c = record {
+  rows_or_not = λ h. c.if-not-is_row.ensures.row_or_not (subst (Row c.args.figures.places c.args.figures.window c.args.limit) (sym c.row_of-row.ensures.row_is) (h c.loop-node.node c.loop-node-test.true));
 }
 
 pub returns : goal.returns

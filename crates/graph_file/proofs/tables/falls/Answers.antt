@@ -9,7 +9,7 @@ returns-then-points-at c =
     let t = falls_turn (λ i. (get_or c.args.points.now (c.args.first + i) no_point).arrival) c.loop-i.i (c.args.count - 1) c.loop-i-test.true in
     let e : c.args.first + (c.loop-i.i + 1) ≡ c.args.first + c.loop-i.i + 1 = omega arith in
     let u = rw e at t in
-    record { one-falls = grind (arith, nat_tests) }
+    record { one_falls = grind (arith, nat_tests) }
 
 pub loop-i-preserved : goal.loop-i-preserved
 loop-i-preserved c =

@@ -2,11 +2,11 @@ use Rattle.std.proofs.Common.{◌≡◌, ℕ, true, sym, subst, arith}
 use Rattle.runs.specs.Sheet.{labelled}
 use Rattle.relaxing.proofs.step.narrow.Goals as goal
 
-pub sample-label-requires : goal.sample-label-requires
-sample-label-requires g c =
+pub sample_label-requires : goal.sample_label-requires
+sample_label-requires g c =
     let f = c.args.figures in
     let ready = c.requires.ready in
-    let e = c.head-of.ensures.head-is in
+    let e = c.head_of.ensures.head_is in
     record {
       right = ready.right;
       room = ready.room;

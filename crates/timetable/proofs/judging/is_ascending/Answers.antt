@@ -6,7 +6,7 @@ use Rattle.timetable.proofs.judging.is_ascending.Goals as goal
 pub returns-then-i-from : goal.returns-then-i-from
 returns-then-i-from c =
     let e = ascending_more c.args.run.now c.loop-i.i-index c.args.period c.loop-i.from c.loop-i-test.true in
-    record { as-ruled = grind (arith, nat_tests) }
+    record { as_ruled = grind (arith, nat_tests) }
 
 pub loop-i-preserved : goal.loop-i-preserved
 loop-i-preserved c =
@@ -16,4 +16,4 @@ loop-i-preserved c =
 pub returns : goal.returns
 returns c =
     let e = ascending_all c.args.run.now c.loop-i.i-index c.args.period c.loop-i.from c.loop-i-test.false in
-    record { as-ruled = cc }
+    record { as_ruled = cc }

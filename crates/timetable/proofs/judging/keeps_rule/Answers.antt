@@ -6,4 +6,4 @@ use Rattle.timetable.proofs.judging.keeps_rule.Goals as goal
 pub returns : goal.returns
 returns c =
     let e = run_part c.args.intervals.now c.args.road.first c.args.road.count in
-    record { as-ruled = grind (arith, nat_tests) }
+    record { as_ruled = grind (arith, nat_tests) }

@@ -4,8 +4,8 @@ use Rattle.timetable.specs.Timetables.{no_road}
 use Rattle.timetable.specs.Timed.{rule_at, intervals_at}
 use Rattle.timetable.proofs.timetabled.Timetabled.run.Goals as goal
 
-pub slice-bounds-result-end : goal.slice-bounds-result-end
-slice-bounds-result-end c =
+pub slice_bounds-result-end : goal.slice_bounds-result-end
+slice_bounds-result-end c =
     let s = c.args.self.now in
     let r = rule_at s.nodes s.roads.now s.intervals.now s.accepted c.args.r c.requires.known in
     search rules
