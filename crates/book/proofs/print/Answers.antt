@@ -14,52 +14,52 @@ use Rattle.book.proofs.print.Goals as goal
 pub returns-in-Err : goal.returns-in-Err
 returns-in-Err g c = record { refused_as_listed = unfit c.in-Err.refusal c.in-Err.ensures.judged; length_of_book = tt; book_printed = tt; refused_keeps_all = refl }
 
-pub returns-then-is-none : goal.returns-then-is-none
-returns-then-is-none g c =
-    let none = no_origin c.args.heading.now.figures.origin (ap (λ (o : Option ℕ). is_some o) (sym c.origin.ensures.origin-held) ∙ c.if-is-none.ensures) in
-    record { refused_as_listed = printing.fit _ (fit c.in-default.ensures.judged) (unstarted none); length_of_book = tt; book_printed = tt; refused_keeps_all = refl }
+pub returns-then-is_none : goal.returns-then-is_none
+returns-then-is_none g c =
+    let none = no_origin c.args.heading.now.figures.origin (ap (λ (o : Option ℕ). is_some o) (sym c.origin.ensures.origin_held) ∙ c.if-is_none.ensures) in
+    record { refused_as_listed = printing.fit _ (fit c.in_default.ensures.judged) (unstarted none); length_of_book = tt; book_printed = tt; refused_keeps_all = refl }
 
-pub returns-then-not-is-empty : goal.returns-then-not-is-empty
-returns-then-not-is-empty g c =
-    let some = some_origin c.args.heading.now.figures.origin (ap (λ (o : Option ℕ). is_some o) (sym c.origin.ensures.origin-held) ∙ c.if-is-none.ensures) in
-    record { refused_as_listed = printing.fit _ (fit c.in-default.ensures.judged) (unsettled some.0 some.1 c.if-not-is-empty.ensures.none-waits-or-some); length_of_book = tt; book_printed = tt; refused_keeps_all = refl }
+pub returns-then-not-is_empty : goal.returns-then-not-is_empty
+returns-then-not-is_empty g c =
+    let some = some_origin c.args.heading.now.figures.origin (ap (λ (o : Option ℕ). is_some o) (sym c.origin.ensures.origin_held) ∙ c.if-is_none.ensures) in
+    record { refused_as_listed = printing.fit _ (fit c.in_default.ensures.judged) (unsettled some.0 some.1 c.if-not-is_empty.ensures.none_waits_or_some); length_of_book = tt; book_printed = tt; refused_keeps_all = refl }
 
-pub text-length-requires : goal.text-length-requires
-text-length-requires g c =
+pub text_length-requires : goal.text_length-requires
+text_length-requires g c =
     let f = c.args.heading.now.figures in
-    let held = c.figures-figures.ensures.figures-held in
-    sheet_fits _ f c.args.rows.now c.args.marks.now _ _ _ (right_tells f c.args.heading.now.lawful) (fit c.in-default.ensures.judged) (c.row-width-width.ensures.width-is ∙ ap (λ (q : Figures). width q.places) held) (ap (λ (q : Figures). q.nodes) held)
+    let held = c.figures-figures.ensures.figures_held in
+    sheet_fits _ f c.args.rows.now c.args.marks.now _ _ _ (right_tells f c.args.heading.now.lawful) (fit c.in_default.ensures.judged) (c.row_width-width.ensures.width_is ∙ ap (λ (q : Figures). width q.places) held) (ap (λ (q : Figures). q.nodes) held)
 
 -- what is laid out is the sheet's book
 laid : (f q : Figures) (cells : List ℕ) (w : ℕ) → q ≡ f → w ≡ width q.places → layout (rows cells w q.nodes) ≡ book_of f cells
 laid f q cells w e wide = ap (λ (x : ℕ). layout (rows cells x q.nodes)) wide ∙ ap (λ (p : Figures). book_of p cells) e
 
-pub returns-then-text-length-buffer : goal.returns-then-text-length-buffer
-returns-then-text-length-buffer g c =
+pub returns-then-text_length-buffer : goal.returns-then-text_length-buffer
+returns-then-text_length-buffer g c =
     let f = c.args.heading.now.figures in
-    let some = some_origin f.origin (ap (λ (o : Option ℕ). is_some o) (sym c.origin.ensures.origin-held) ∙ c.if-is-none.ensures) in
-    let is = laid f c.figures-figures.result c.args.rows.now _ c.figures-figures.ensures.figures-held c.row-width-width.ensures.width-is in
-    let long : length c.args.buffer.now < length (book_of f c.args.rows.now) = omega (arith, c.text-length.ensures.measures-text, ap length is) in
-    record { refused_as_listed = printing.fit _ (fit c.in-default.ensures.judged) (cramped some.0 some.1 c.if-not-is-empty.ensures.none-waits-or-some long); length_of_book = tt; book_printed = tt; refused_keeps_all = refl }
+    let some = some_origin f.origin (ap (λ (o : Option ℕ). is_some o) (sym c.origin.ensures.origin_held) ∙ c.if-is_none.ensures) in
+    let is = laid f c.figures-figures.result c.args.rows.now _ c.figures-figures.ensures.figures_held c.row_width-width.ensures.width_is in
+    let long : length c.args.buffer.now < length (book_of f c.args.rows.now) = omega (arith, c.text_length.ensures.measures_text, ap length is) in
+    record { refused_as_listed = printing.fit _ (fit c.in_default.ensures.judged) (cramped some.0 some.1 c.if-not-is_empty.ensures.none_waits_or_some long); length_of_book = tt; book_printed = tt; refused_keeps_all = refl }
 
-pub write-text-requires : goal.write-text-requires
-write-text-requires g c =
+pub write_text-requires : goal.write_text-requires
+write_text-requires g c =
     let f = c.args.heading.now.figures in
-    let held = c.figures-figures.ensures.figures-held in
+    let held = c.figures-figures.ensures.figures_held in
     record {
-      fits = sheet_fits _ f c.args.rows.now c.args.marks.now _ _ _ (right_tells f c.args.heading.now.lawful) (fit c.in-default.ensures.judged) (c.row-width-width.ensures.width-is ∙ ap (λ (q : Figures). width q.places) held) (ap (λ (q : Figures). q.nodes) held);
-      room = omega (arith, c.text-length.ensures.measures-text);
+      fits = sheet_fits _ f c.args.rows.now c.args.marks.now _ _ _ (right_tells f c.args.heading.now.lawful) (fit c.in_default.ensures.judged) (c.row_width-width.ensures.width_is ∙ ap (λ (q : Figures). width q.places) held) (ap (λ (q : Figures). q.nodes) held);
+      room = omega (arith, c.text_length.ensures.measures_text);
     }
 
 pub returns : goal.returns
 returns g c =
     let f = c.args.heading.now.figures in
-    let some = some_origin f.origin (ap (λ (o : Option ℕ). is_some o) (sym c.origin.ensures.origin-held) ∙ c.if-is-none.ensures) in
-    let is = laid f c.figures-figures.result c.args.rows.now _ c.figures-figures.ensures.figures-held c.row-width-width.ensures.width-is in
-    let short : length (book_of f c.args.rows.now) ≤ length c.args.buffer.now = omega (arith, c.text-length.ensures.measures-text, ap length is) in
+    let some = some_origin f.origin (ap (λ (o : Option ℕ). is_some o) (sym c.origin.ensures.origin_held) ∙ c.if-is_none.ensures) in
+    let is = laid f c.figures-figures.result c.args.rows.now _ c.figures-figures.ensures.figures_held c.row_width-width.ensures.width_is in
+    let short : length (book_of f c.args.rows.now) ≤ length c.args.buffer.now = omega (arith, c.text_length.ensures.measures_text, ap length is) in
     record {
-      refused_as_listed = printing.fit _ (fit c.in-default.ensures.judged) (printable some.0 some.1 c.if-not-is-empty.ensures.none-waits-or-some short);
-      length_of_book = c.write-text.ensures.ends_after_text ∙ ap length is;
-      book_printed = c.write-text.ensures.writes_text_alone ∙ ap (λ (text : List ℕ). written 0 text c.args.buffer.now) is;
+      refused_as_listed = printing.fit _ (fit c.in_default.ensures.judged) (printable some.0 some.1 c.if-not-is_empty.ensures.none_waits_or_some short);
+      length_of_book = c.write_text.ensures.ends_after_text ∙ ap length is;
+      book_printed = c.write_text.ensures.writes_text_alone ∙ ap (λ (text : List ℕ). written 0 text c.args.buffer.now) is;
       refused_keeps_all = tt;
     }

@@ -8,24 +8,24 @@ use Rattle.runs.proofs.Rows.{room_for}
 use Rattle.runs.proofs.Writing.{rewritten}
 use Rattle.sheet.proofs.origins.begin_rows.Goals as goal
 
-pub slice-bounds-write-row-end-2 : goal.slice-bounds-write-row-end-2
-slice-bounds-write-row-end-2 c =
+pub slice_bounds-write_row-end-2 : goal.slice_bounds-write_row-end-2
+slice_bounds-write_row-end-2 c =
     let f = c.args.figures in
-    omega (arith, room_for f.places f.nodes c.args.node _ c.requires.room c.requires.node-below, c.clear-rows.auto.rows, c.row-start-start.ensures.start-is, c.row-width.ensures.width-is)
+    omega (arith, room_for f.places f.nodes c.args.node _ c.requires.room c.requires.node_below, c.clear_rows.auto.rows, c.row_start-start.ensures.start_is, c.row_width.ensures.width_is)
 
 pub returns : goal.returns
 returns c =
     let f = c.args.figures in
-    let start = c.row-start-start.result in
-    let blanks = c.clear-rows.new.rows in
-    let room : f.nodes * width f.places ≤ length blanks = omega (arith, c.requires.room, c.clear-rows.auto.rows) in
-    let fit = room_for f.places f.nodes c.args.node (length blanks) room c.requires.node-below in
-    let wide : start + c.row-width.result - start ≡ width f.places = omega (arith, c.row-width.ensures.width-is) in
-    let part : length (take (start + c.row-width.result - start) (drop start blanks)) ≡ start + c.row-width.result - start =
-    length-take-le (start + c.row-width.result - start) (drop start blanks) (simp length-drop (omega (arith, fit, c.row-start-start.ensures.start-is, wide))) in
-    let new = put_mid start (start + c.row-width.result - start) blanks c.write-row.new.row in
+    let start = c.row_start-start.result in
+    let blanks = c.clear_rows.new.rows in
+    let room : f.nodes * width f.places ≤ length blanks = omega (arith, c.requires.room, c.clear_rows.auto.rows) in
+    let fit = room_for f.places f.nodes c.args.node (length blanks) room c.requires.node_below in
+    let wide : start + c.row_width.result - start ≡ width f.places = omega (arith, c.row_width.ensures.width_is) in
+    let part : length (take (start + c.row_width.result - start) (drop start blanks)) ≡ start + c.row_width.result - start =
+    length-take-le (start + c.row_width.result - start) (drop start blanks) (simp length-drop (omega (arith, fit, c.row_start-start.ensures.start_is, wide))) in
+    let new = put_mid start (start + c.row_width.result - start) blanks c.write_row.new.row in
     record {
-      origin_alone = subst (λ (xs : List ℕ). Rewritten f xs c.args.node (diagonal f.window) new) c.clear-rows.ensures.rows-cleared
-          (rewritten f blanks c.args.node start _ _ c.write-row.new.row c.row-start-start.ensures.start-is wide room c.requires.node-below
-          (omega (arith, c.write-row.auto.row, part)) (c.write-row.ensures.label_laid_out f.places (part ∙ wide)));
+      origin_alone = subst (λ (xs : List ℕ). Rewritten f xs c.args.node (diagonal f.window) new) c.clear_rows.ensures.rows_cleared
+          (rewritten f blanks c.args.node start _ _ c.write_row.new.row c.row_start-start.ensures.start_is wide room c.requires.node_below
+          (omega (arith, c.write_row.auto.row, part)) (c.write_row.ensures.label_laid_out f.places (part ∙ wide)));
     }

@@ -30,18 +30,18 @@ loop-done-preserved g c = (
   c.in-Finished.ensures.stays_ready,
 )
 
-pub returns-then-is-empty : goal.returns-then-is-empty
-returns-then-is-empty g c = record {
+pub returns-then-is_empty : goal.returns-then-is_empty
+returns-then-is_empty g c = record {
   stays_ok = c.loop-done.invariant.2;
   bound_kept = c.loop-done.invariant.1 ∙ sym c.requires.list.0;
   stays_ready = c.loop-done.invariant.3;
-  worked = settles (omega arith) (as_many _ _ _ _ _ _ (omega (arith, c.loop-done-test.false, c.loop-done.auto.done-end)) c.loop-done.invariant.0) c.if-is-empty.ensures.none-waits-or-some;
+  worked = settles (omega arith) (as_many _ _ _ _ _ _ (omega (arith, c.loop-done-test.false, c.loop-done.auto.done-end)) c.loop-done.invariant.0) c.if-is_empty.ensures.none_waits_or_some;
 }
 
-pub returns-else-is-empty : goal.returns-else-is-empty
-returns-else-is-empty g c = record {
+pub returns-else-is_empty : goal.returns-else-is_empty
+returns-else-is_empty g c = record {
   stays_ok = c.loop-done.invariant.2;
   bound_kept = c.loop-done.invariant.1 ∙ sym c.requires.list.0;
   stays_ready = c.loop-done.invariant.3;
-  worked = pauses refl (as_many _ _ _ _ _ _ (omega (arith, c.loop-done-test.false, c.loop-done.auto.done-end)) c.loop-done.invariant.0) c.if-is-empty.ensures.none-waits-or-some;
+  worked = pauses refl (as_many _ _ _ _ _ _ (omega (arith, c.loop-done-test.false, c.loop-done.auto.done-end)) c.loop-done.invariant.0) c.if-is_empty.ensures.none_waits_or_some;
 }

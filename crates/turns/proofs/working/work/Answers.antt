@@ -20,8 +20,8 @@ started None e = let z : ◌≡◌ {A = ℕ} 0 1 = ap (λ (b : Bool). cond b 1 0
 pub turns-requires : goal.turns-requires
 turns-requires g c =
     let f = c.args.heading.now.figures in
-    let parts = fit c.in-default.ensures.judged in
-    let e = sym c.figures.ensures.figures-held in
+    let parts = fit c.in_default.ensures.judged in
+    let e = sym c.figures.ensures.figures_held in
     record {
       ready = subst (λ (q : Figures). Ready (g.N.Network.means c.args.net.now) q c.args.rows.now) e (readied (right_tells f c.args.heading.now.lawful) parts);
       marked = subst (λ (q : Figures). q.roads ≤ length c.args.marks.now) e parts.roomy.marks;
@@ -32,13 +32,13 @@ pub returns : goal.returns
 returns g c =
     let f = c.args.heading.now.figures in
     let net = g.N.Network.means c.args.net.now in
-    let judged = c.in-default.ensures.judged in
-    let e = c.figures.ensures.figures-held in
+    let judged = c.in_default.ensures.judged in
+    let e = c.figures.ensures.figures_held in
     let turned = c.turns.ensures in
     let worked = subst (λ (q : Figures). Worked g.L.WorkList.work net (state q c.args.rows.now c.args.marks.now c.args.list.now) c.args.count c.turns.result.0 c.turns.result.1 (state q c.turns.new.rows c.args.marks.now c.turns.new.list)) e turned.worked in
     record {
       list_stays_ok = turned.stays_ok;
-      refused_as_listed = judged_last _ _ judged (started f.origin (ap (λ (o : Option ℕ). is_some o) (sym c.origin.ensures.origin-held) ∙ c.if-is-none.ensures));
+      refused_as_listed = judged_last _ _ judged (started f.origin (ap (λ (o : Option ℕ). is_some o) (sym c.origin.ensures.origin_held) ∙ c.if-is_none.ensures));
       worked = worked;
       settles = work_settles g.L.WorkList.work g.L.WorkList.orderly net (lawful_of g.N.Network c.args.net.now) _ c.args.count c.turns.result.0 c.turns.result.1 _ (readied (right_tells f c.args.heading.now.lawful) (fit judged)) worked;
       fits = fitted (fit judged) turned.bound_kept (subst (λ (q : Figures). Ready net q c.turns.new.rows) e turned.stays_ready);
