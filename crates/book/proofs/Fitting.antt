@@ -1,9 +1,8 @@
 -- A well-formed sheet can be laid out.
-use Rattle.std.proofs.Common.{◌≡◌, ℕ, ◌+◌, ◌*◌, ◌<◌, ◌≤◌, Bool, true, false, cond, List, length, get_or, replicate, is_some, Some, None, Option, sym, refl, ap, ◌∙◌, subst, arith}
-use Rattle.std.proofs.lemmas.List.{get_or-replicate}
-use Rattle.layout.specs.Sheets.{RowFits, SheetFits, row_of}
+use Rattle.std.proofs.Common.{◌≡◌, ℕ, ◌≤◌, Bool, true, false, cond, List, length, get_or, is_some, Some, None, Option, sym, refl, ap, subst, arith}
+use Rattle.layout.specs.Sheets.{SheetFits}
 use Rattle.network.specs.Net.{Net}
-use Rattle.rows.specs.Rows.{width, points, laid_out, laid_back}
+use Rattle.rows.specs.Rows.{width, points, laid_back}
 use Rattle.runs.specs.declared.Figures.{Figures}
 use Rattle.runs.specs.Figured.{Right}
 use Rattle.runs.specs.Formed.{Row, blank, holds, latest}

@@ -2,7 +2,7 @@
 use Rattle.std.proofs.Common.{◌≡◌, ℕ, zero, suc, ◌+◌, ◌-◌, ◌<◌, ◌≤◌, true, List, [], ◌∷◌, length, get_or, sym, refl, ap, subst, add-one, arith, lt-ltb, le-leb}
 use Rattle.std.proofs.lemmas.Bool.{and_from}
 use Rattle.curve.specs.declared.points.Point.{Point}
-use Rattle.curve.specs.Curve.{no_point, climbs, climbing_from}
+use Rattle.curve.specs.Curve.{no_point, climbing_from}
 use Rattle.corridor.specs.Corridor.{Next, Onwards, Corridor, Ordered, Stands, point}
 use Rattle.corridor.specs.Laws.{LabelSpans, LabelStands}
 use Rattle.corridor.proofs.Made.{next_stands}

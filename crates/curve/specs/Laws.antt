@@ -1,7 +1,7 @@
 -- What is proved of reading between points.
 use Rattle.std.specs.Prelude.{◌≡◌, ℕ, ◌+◌, ◌<◌, ◌≤◌, true, List, length, get_or, slice_index_or}
 use Rattle.curve.specs.declared.points.Point.{Point}
-use Rattle.curve.specs.Curve.{no_point, span, between, reads, climbs, climbing}
+use Rattle.curve.specs.Curve.{no_point, span, between, reads, climbing}
 use Rattle.curve.specs.Runs.{Over, Under}
 
 -- the line between two points: exact at both, never above or below them, never falling

@@ -3,7 +3,7 @@ use Rattle.std.proofs.Common.{◌≡◌, ℕ, zero, suc, ◌+◌, ◌<◌, false
 use Rattle.std.proofs.lemmas.Bool.{cond-true, cond-false, both_ways, cases_Bool, eq-eqb, ne_eqb}
 use Rattle.rows.specs.Rows.{width, points, laid_back}
 use Rattle.runs.specs.declared.Figures.{Figures}
-use Rattle.runs.specs.Sheet.{row, any, label, labelled}
+use Rattle.runs.specs.Sheet.{row, any, labelled}
 use Rattle.runs.specs.Formed.{Row, blank, holds, labels_below, latest, WellFormed}
 use Rattle.runs.proofs.Keeping.{counts_some}
 use Rattle.runs.proofs.Rows.{any_points}

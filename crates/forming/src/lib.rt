@@ -3,7 +3,7 @@
 #![tactic(auto)]
 
 mod labels;
-mod rows;
+mod row_forms;
 mod sheets;
 
 pub use sheets::is_well_formed;

@@ -4,7 +4,7 @@ ghost use Rattle.rows.specs.Rows.{width};
 ghost use Rattle.runs.specs.Figured.{Right};
 ghost use Rattle.runs.specs.Formed.{WellFormed, labels_below};
 
-use super::rows::{is_origin_row, is_row};
+use super::row_forms::{is_origin_row, is_row};
 use runs::{Figures, row_of};
 
 /// The most minutes that a label may gain over one road: 10,000 for the crossing and as many for the allowance.

@@ -1,5 +1,5 @@
 -- No rule sees that numbers are read up to 10,001.
-use Rattle.std.proofs.Common.{◌≡◌, ℕ, ◌+◌, ◌-◌, ◌*◌, ◌<◌, ◌≤◌, min, true, ◌&&◌, ◌||◌, eqb, ltb, leb, Ok, Err, sym, refl, ap, ◌∙◌, inl, inr, arith}
+use Rattle.std.proofs.Common.{◌≡◌, ℕ, ◌+◌, ◌*◌, ◌<◌, ◌≤◌, min, true, ◌&&◌, ◌||◌, eqb, ltb, leb, Ok, Err, sym, refl, ap, ◌∙◌, inl, inr, arith}
 use Rattle.graph_file.proofs.Passing.{never, passed, passed_after, passed_twice}
 use Rattle.graph_line.specs.Statements.{capped}
 use Rattle.graph_file.specs.Steps.{Within, arc_fits, crossing, following, opening, same_ends, step}

@@ -1,5 +1,5 @@
 -- Where a weight stands, and where it goes.
-use Rattle.std.proofs.Common.{ℕ, ◌+◌, ◌-◌, ◌*◌, ◌/◌, ◌%◌, ◌^◌, ◌<◌, ◌≤◌, mul-le-mul_right, mod-lt, div-lt_iff_lt-mul, mul-le-mul_left, arith}
+use Rattle.std.proofs.Common.{ℕ, ◌+◌, ◌*◌, ◌/◌, ◌%◌, ◌^◌, ◌<◌, ◌≤◌, mul-le-mul_right, mod-lt, div-lt_iff_lt-mul, mul-le-mul_left, arith}
 use Rattle.graph_file.specs.Placing.{place_of}
 
 -- file by file there is room for all that there is room for road by road

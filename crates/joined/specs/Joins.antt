@@ -6,7 +6,7 @@ use Rattle.refusal.specs.declared.Refusal.TheVariants.{Table, Quota}
 use Rattle.network.specs.Net.{Net, Lawful}
 use Rattle.network.specs.Laws.{lawful_of}
 use Rattle.network.specs.declared.meaning.Network.{Ghosts}
-use Rattle.joined.specs.Joining.{join_fault, added, part, join}
+use Rattle.joined.specs.Joining.{join_fault, part, join}
 
 -- what no fault tells
 fits_by : (s l : Bool) → is_some (cond s (cond l None (Some (Quota record { file = 0; line = 0 }))) (Some (Table None))) ≡ false → (s ≡ true) × (l ≡ true)

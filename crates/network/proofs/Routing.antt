@@ -1,7 +1,7 @@
 -- The laws of whole routes, from those of the roads.
-use Rattle.std.proofs.Common.{◌≡◌, ℕ, ◌+◌, ◌*◌, ◌<◌, ◌≤◌, Bool, true, arith}
+use Rattle.std.proofs.Common.{arith}
 use Rattle.network.specs.Net.{Net, Lawful}
-use Rattle.network.specs.Routes.{Route, stay, then, arrival, KeepsOrder, KeepsPace}
+use Rattle.network.specs.Routes.{stay, then, arrival, KeepsOrder, KeepsPace}
 
 pub keeps_order : (net : Net) → Lawful net → KeepsOrder net
 keeps_order net l isOpen o v j stay t u h = h

@@ -1,5 +1,5 @@
 -- The laws that a kind of network owes, put together.
-use Rattle.network.specs.Net.{Net, Lawful}
+use Rattle.network.specs.Net.{Lawful}
 use Rattle.network.specs.declared.meaning.Network.{Ghosts}
 
 -- whatever is a network is a lawful one

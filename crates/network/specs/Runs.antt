@@ -1,9 +1,9 @@
 -- The laws of a right run of points.
-use Rattle.std.specs.Prelude.{◌≡◌, ℕ, zero, suc, ◌+◌, ◌<◌, ◌≤◌, min, true, ◌&&◌, ◌⊎◌, List, [], ◌∷◌, length, get_or, slice_index_or, refl}
+use Rattle.std.specs.Prelude.{◌≡◌, ℕ, zero, suc, ◌+◌, ◌<◌, ◌≤◌, min, true, ◌⊎◌, List, [], ◌∷◌, length, get_or, slice_index_or, refl}
 use Rattle.std.proofs.Common.{suc-le-suc, subst, ◌∙◌, inl, inr, arith, not-suc-le-zero, le_of_suc-le-suc}
 use Rattle.std.proofs.lemmas.Bool.{and_parts, and_from, ltb-true, leb-true, eqb-true, cases_lt}
 use Rattle.curve.specs.declared.points.Point.{Point}
-use Rattle.curve.specs.Curve.{no_point, span, between, reads, climbs, climbing}
+use Rattle.curve.specs.Curve.{no_point, span, reads, climbs, climbing}
 use Rattle.curve.specs.Lines.{between_start}
 use Rattle.curve.specs.Runs.{Over, Under, reads_low, reads_high, reads_mono, reads_between, reads_past, rises_at}
 use Rattle.network.specs.Tables.{point_right, points_right, run_right, quickest_of, quickest}

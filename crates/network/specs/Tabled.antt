@@ -1,5 +1,5 @@
 -- Exactly the tables that keep their rule are accepted, and they mean a lawful network.
-use Rattle.std.specs.Prelude.{◌≡◌, ℕ, ◌<◌, ◌≤◌, false, List, length, is_some, None, Decides, slice_index_or}
+use Rattle.std.specs.Prelude.{◌≡◌, ℕ, ◌<◌, false, List, length, is_some, None, Decides, slice_index_or}
 use Rattle.std.proofs.Common.{ap, arith}
 use Rattle.curve.specs.declared.points.Point.{Point}
 use Rattle.network.specs.declared.tables.Road.{Road}

@@ -1,5 +1,5 @@
 -- How a heap is kept while an entry rises or sinks. Over functions from places, so that each list is read at any default.
-use Rattle.std.proofs.Common.{◌≡◌, ℕ, zero, suc, ◌+◌, ◌-◌, ◌*◌, ◌/◌, ◌<◌, ◌≤◌, Bool, true, false, not, ◌⊎◌, List, [], ◌∷◌, ◌++◌, length, get_or, take, set, sym, refl, ap, ◌∙◌, subst, inl, inr, ⊎_elim, arith, length-set, get_or-set_other}
+use Rattle.std.proofs.Common.{◌≡◌, ℕ, zero, suc, ◌+◌, ◌-◌, ◌*◌, ◌/◌, ◌<◌, ◌≤◌, Bool, true, false, List, [], ◌∷◌, ◌++◌, length, get_or, take, set, sym, refl, ap, ◌∙◌, subst, ⊎_elim, arith, get_or-set_other}
 use lib.Seq.{take-set-lt}
 use Rattle.std.specs.Cmp.{IsStrictWeakOrder}
 use Rattle.std.specs.List.Sorted.{IsPermutation}
@@ -10,7 +10,7 @@ use Rattle.std.proofs.ByRecursion.{All-from_get_or, has_get_or}
 use Rattle.std.proofs.lemmas.List.Edits.{swap_is}
 use Rattle.std.proofs.lemmas.List.Sorted.{IsPermutation-swap, IsPermutation-trans, IsPermutation-to_front, IsPermutation-sym, IsPermutation-refl, IsPermutation-cons}
 use Rattle.queue.specs.Orders.{Least, First}
-use Rattle.queue.specs.Heap.{Heap, Hollow, Ordered, Loose, Child}
+use Rattle.queue.specs.Heap.{Heap, Ordered, Loose, Child}
 
 module _ {X : Type 0} (before : X → X → Bool) where
   by : (a b x y : X) → a ≡ x → b ≡ y → before x y ≡ false → before a b ≡ false

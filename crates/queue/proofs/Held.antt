@@ -1,5 +1,5 @@
 -- How many entries a queue holds.
-use Rattle.std.proofs.Common.{◌≡◌, Bool, List, [], length}
+use Rattle.std.proofs.Common.{◌≡◌, Bool, length}
 use Rattle.std.proofs.lemmas.List.{length-take-le}
 use Rattle.queue.specs.declared.heap.Queue.{Queue}
 use Rattle.queue.specs.Queues.{Sound, held}

@@ -1,5 +1,5 @@
 -- From the corridor that the code has reckoned to the corridor of the rule.
-use Rattle.std.proofs.Common.{◌≡◌, ℕ, ◌+◌, ◌-◌, ◌*◌, ◌<◌, ◌≤◌, Bool, true, false, cond, List, [], ◌∷◌, length, get_or, sym, refl, ap, ◌∙◌, subst, arith}
+use Rattle.std.proofs.Common.{◌≡◌, ℕ, ◌+◌, ◌*◌, ◌<◌, ◌≤◌, Bool, true, false, cond, List, [], ◌∷◌, length, get_or, sym, refl, ap, ◌∙◌, subst, arith}
 use Rattle.curve.specs.declared.points.Point.{Point}
 use Rattle.curve.specs.Curve.{no_point, reads}
 use Rattle.corridor.specs.Corridor.{Corridor}
@@ -9,11 +9,9 @@ use Rattle.corridor.proofs.Laws.{laws as corridor_laws}
 use Rattle.network.specs.Net.{Net, Lawful}
 use Rattle.rows.specs.Rows.{points, laid_back}
 use Rattle.runs.specs.declared.Figures.{Figures}
-use Rattle.runs.specs.Figured.{Right}
-use Rattle.runs.specs.Formed.{latest, Laid}
-use Rattle.runs.specs.Ready.{Ready, Asked, Rewritten}
-use Rattle.runs.specs.Sheet.{State, state, row, label, labelled, at, lo, up, Within}
-use Rattle.runs.specs.Turns.{Replaced, Changed, Relaxed, kept, changed, Full, Filled}
+use Rattle.runs.specs.Ready.{Ready, Asked}
+use Rattle.runs.specs.Sheet.{state, label, labelled, at, lo, up}
+use Rattle.runs.specs.Turns.{Replaced, Relaxed, changed, Filled}
 use Rattle.runs.proofs.Keeping.{ordered, up_mono, up_high, lo_low, latest_bound}
 use Rattle.worklist.specs.Work.{Work}
 use Rattle.relaxing.specs.Labels.{Relabelled}

@@ -1,5 +1,5 @@
 -- What a reply tells.
-use Rattle.std.proofs.Common.{◌≡◌, ℕ, Bool, true, false, cond, Some, None, Ok, Err, Option, Result, refl, arith, MatchResult}
+use Rattle.std.proofs.Common.{◌≡◌, ℕ, Bool, true, false, cond, Some, None, Ok, Err, Result, refl, arith, MatchResult}
 
 pub some_is : (b : Bool) (x a : ℕ) → cond b (Some x) None ≡ Some a → (b ≡ true) × (x ≡ a)
 some_is true x a e = (refl, cc)

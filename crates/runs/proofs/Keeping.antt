@@ -1,12 +1,12 @@
 -- Relaxing a road keeps the rows of a sheet well formed.
-use Rattle.std.proofs.Common.{◌≡◌, ℕ, zero, suc, ◌+◌, ◌-◌, ◌*◌, ◌/◌, ◌<◌, ◌≤◌, min, Bool, true, false, cond, ◌⊎◌, List, [], ◌∷◌, length, get_or, replicate, Some, None, Option, sym, refl, ap, ◌∙◌, subst, inl, inr, ⊎_elim, le_trans, mul-le-mul_right, arith}
+use Rattle.std.proofs.Common.{◌≡◌, ℕ, zero, suc, ◌+◌, ◌*◌, ◌<◌, ◌≤◌, min, Bool, true, false, cond, ◌⊎◌, List, [], ◌∷◌, length, sym, refl, ap, ◌∙◌, subst, inl, inr, ⊎_elim, le_trans, mul-le-mul_right, arith}
 use native.Mathlib.Nat.{div-le_of_le-mul}
-use native.Mathlib.Decide.{ℕ_discrete, dec_lt}
+use native.Mathlib.Decide.{ℕ_discrete}
 use Rattle.curve.specs.declared.points.Point.{Point}
-use Rattle.curve.specs.Curve.{no_point, reads}
-use Rattle.rows.specs.Rows.{width, points, laid_out, laid_back}
-use Rattle.corridor.specs.Corridor.{Corridor, Ordered, NeverFalls}
-use Rattle.corridor.specs.Laws.{Laws, Spans}
+use Rattle.curve.specs.Curve.{reads}
+use Rattle.rows.specs.Rows.{points, laid_out, laid_back}
+use Rattle.corridor.specs.Corridor.{Ordered, NeverFalls}
+use Rattle.corridor.specs.Laws.{Spans}
 use Rattle.corridor.proofs.Laws.{laws as corridor_laws}
 use Rattle.network.specs.Net.{Net, Lawful}
 use Rattle.runs.specs.declared.Figures.{Figures}
@@ -14,7 +14,7 @@ use Rattle.runs.specs.Figured.{Right}
 use Rattle.runs.specs.Sheet.{row, any, diagonal, label, labelled, at, allow, over, lo, up, Within}
 use Rattle.runs.specs.Formed.{Label, Row, blank, holds, labels_below, latest, Laid}
 use Rattle.runs.specs.Turns.{Replaced}
-use Rattle.runs.proofs.Labels.{label_high, label_low, label_mono, label_there, diagonal_label, on_time, blank_points, row_holds}
+use Rattle.runs.proofs.Labels.{label_high, label_low, label_mono, on_time, blank_points, row_holds}
 
 pub clash : {b : Bool} → b ≡ true → b ≡ false → ⊥
 clash p q = let z : ◌≡◌ {A = ℕ} 0 1 = ap (λ (x : Bool). cond x 0 1) (sym p ∙ q) in omega arith

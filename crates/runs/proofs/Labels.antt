@@ -1,10 +1,10 @@
 -- What a label and a row read.
-use Rattle.std.proofs.Common.{◌≡◌, ℕ, zero, suc, ◌+◌, ◌-◌, ◌*◌, ◌<◌, ◌≤◌, Bool, true, false, cond, ltb, leb, ◌⊎◌, List, [], ◌∷◌, length, get_or, replicate, sym, refl, ap, ◌∙◌, subst, inl, inr, suc-le-suc, le_trans, add-zero, one-add, arith, lt-ltb, le-leb}
+use Rattle.std.proofs.Common.{◌≡◌, ℕ, zero, suc, ◌+◌, ◌-◌, ◌*◌, ◌<◌, ◌≤◌, Bool, true, false, cond, List, [], ◌∷◌, length, get_or, replicate, sym, refl, ap, ◌∙◌, subst, suc-le-suc, le_trans, one-add, arith, lt-ltb, le-leb}
 use Rattle.curve.specs.declared.points.Point.{Point}
-use Rattle.curve.specs.Curve.{no_point, span, reads, climbing}
-use Rattle.curve.specs.Runs.{Over, Under, reads_low, reads_high, reads_mono, reads_past, reads_between, rises_at}
+use Rattle.curve.specs.Curve.{no_point, reads, climbing}
+use Rattle.curve.specs.Runs.{Over, reads_low, reads_high, reads_mono, reads_past, reads_between, rises_at}
 use Rattle.curve.specs.Lines.{between_start}
-use Rattle.rows.specs.Rows.{width, points, pairs, laid_out, laid_back}
+use Rattle.rows.specs.Rows.{width, points, pairs, laid_back}
 use Rattle.runs.specs.declared.Figures.{Figures}
 use Rattle.runs.specs.Sheet.{any, diagonal, label, labelled, row}
 use Rattle.runs.specs.Formed.{Label, Row, blank, holds, latest, Laid}

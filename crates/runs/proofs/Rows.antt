@@ -1,8 +1,7 @@
 -- Where rows lie.
-use Rattle.std.proofs.Common.{◌≡◌, ℕ, zero, suc, ◌+◌, ◌-◌, ◌*◌, ◌<◌, ◌≤◌, Bool, true, false, not, eqb, List, [], ◌∷◌, length, get_or, take, drop, sym, refl, ap, ◌∙◌, subst, mul-le-mul_right, suc-mul, arith, length-drop, ne_eqb}
+use Rattle.std.proofs.Common.{◌≡◌, ℕ, zero, suc, ◌+◌, ◌*◌, ◌<◌, ◌≤◌, not, eqb, List, length, get_or, take, drop, sym, refl, ap, ◌∙◌, mul-le-mul_right, suc-mul, arith, length-drop, ne_eqb}
 use Rattle.std.proofs.lemmas.List.{length-take-le, get_or-drop}
 use Rattle.curve.specs.Curve.{no_point}
-use Rattle.curve.specs.declared.points.Point.{Point}
 use Rattle.rows.specs.Rows.{width, points, pairs}
 use Rattle.runs.specs.Sheet.{row, any}
 

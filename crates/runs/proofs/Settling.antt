@@ -1,5 +1,5 @@
 -- Relaxing, turns and work leave even what was even, and raise no label.
-use Rattle.std.proofs.Common.{◌≡◌, ℕ, ◌+◌, ◌*◌, ◌/◌, ◌<◌, ◌≤◌, min, Bool, true, false, cond, List, length, get_or, Some, sym, refl, ap, ◌∙◌, subst, ⊎_elim, arith}
+use Rattle.std.proofs.Common.{◌≡◌, ℕ, ◌+◌, ◌<◌, ◌≤◌, min, Bool, true, false, cond, List, get_or, Some, sym, refl, ap, ◌∙◌, subst, ⊎_elim, arith}
 use Rattle.curve.specs.declared.points.Point.{Point}
 use Rattle.curve.specs.Curve.{reads}
 use Rattle.corridor.proofs.Laws.{laws as corridor_laws}
@@ -8,12 +8,12 @@ use Rattle.network.specs.Net.{Net, Lawful}
 use Rattle.worklist.specs.Work.{Work, Orderly, Idle}
 use Rattle.runs.specs.declared.Figures.{Figures}
 use Rattle.runs.specs.declared.Outcome.{Outcome}
-use Rattle.runs.specs.declared.Outcome.TheVariants.{Full, Settled, More}
+use Rattle.runs.specs.declared.Outcome.TheVariants.{Settled}
 use Rattle.runs.specs.Ready.{Ready}
 use Rattle.runs.specs.Sheet.{State, with_list, any, label, labelled, at, allow, over, lo, up, Within}
 use Rattle.runs.specs.Turns.{Due, Changed, Relaxed, kept, changed, Passed, begins, passes, relaxes, Turned, idles, relaxed, Stopped, Turns, at_first, then_one, Worked, fills, settles, pauses}
 use Rattle.runs.specs.Settling.{Even, Falls, Settles}
-use Rattle.runs.proofs.Keeping.{clash, same, either, ordered, lo_low, replaced_laid, new_there}
+use Rattle.runs.proofs.Keeping.{clash, same, ordered, lo_low, replaced_laid, new_there}
 
 -- even but for the roads from k on out of u
 abbrev EvenBut : {L : Type 0} → Work L → Net → State L → ℕ → ℕ → Type 0

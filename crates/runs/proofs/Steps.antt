@@ -1,12 +1,12 @@
 -- What relaxing a road keeps.
-use Rattle.std.proofs.Common.{◌≡◌, ℕ, ◌*◌, ◌<◌, ◌≤◌, Bool, true, List, length, sym, refl, ap, ◌∙◌, subst, ⊎_elim, arith}
-use Rattle.rows.specs.Rows.{width, points}
+use Rattle.std.proofs.Common.{◌≡◌, ℕ, ◌<◌, true, List, sym, ap, ◌∙◌, subst, ⊎_elim, arith}
+use Rattle.rows.specs.Rows.{points}
 use Rattle.network.specs.Net.{Net, Lawful}
 use Rattle.worklist.specs.Work.{Work}
 use Rattle.runs.specs.declared.Figures.{Figures}
 use Rattle.runs.specs.Ready.{Ready}
 use Rattle.runs.specs.Sheet.{State, state, any, labelled}
-use Rattle.runs.specs.Turns.{Changed, Relaxed, kept, changed}
+use Rattle.runs.specs.Turns.{Relaxed, kept, changed}
 use Rattle.runs.proofs.Keeping.{same, replaced_laid, new_there}
 
 module _ {L : Type 0} (w : Work L) (net : Net) (laws : Lawful net) (f : Figures) (rows rows' ms : List ℕ) (l l' : L) (r : ℕ) (ready : Ready net f rows) (road : r < net.roads) (some : labelled f rows (net.tail r) ≡ true) where

@@ -1,10 +1,10 @@
 -- Well-formed sheets.
-use Rattle.std.specs.Prelude.{◌≡◌, ℕ, zero, suc, ◌+◌, ◌-◌, ◌*◌, ◌<◌, ◌≤◌, Bool, true, false, cond, List, [], ◌∷◌, length, replicate, Some, None, Option, slice_index, slice_index_or}
+use Rattle.std.specs.Prelude.{◌≡◌, ℕ, zero, suc, ◌+◌, ◌-◌, ◌*◌, ◌<◌, ◌≤◌, true, cond, List, length, replicate, Some, None, slice_index, slice_index_or}
 use Rattle.curve.specs.declared.points.Point.{Point}
 use Rattle.curve.specs.Curve.{no_point, climbing}
 use Rattle.rows.specs.Rows.{width, laid_out}
 use Rattle.runs.specs.declared.Figures.{Figures}
-use Rattle.runs.specs.Sheet.{row, any, diagonal, label, labelled}
+use Rattle.runs.specs.Sheet.{row, diagonal, labelled}
 
 -- a label over the departures 0 to H: two points or more, climbing from departure 0 to departure H, none before its
 -- departure and none after limit

@@ -1,5 +1,5 @@
 -- A sheet that begins anew is even: its only label is the origin's, and the origin waits.
-use Rattle.std.proofs.Common.{◌≡◌, ℕ, ◌<◌, Bool, true, false, List, sym, ap, ◌∙◌, subst, ⊎_elim, arith}
+use Rattle.std.proofs.Common.{◌≡◌, ℕ, false, List, sym, ap, ◌∙◌, subst, ⊎_elim, arith}
 use Rattle.rows.specs.Rows.{points}
 use Rattle.network.specs.Net.{Net, Lawful}
 use Rattle.worklist.specs.Work.{Work, Orderly}

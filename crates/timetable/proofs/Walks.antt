@@ -1,5 +1,5 @@
 -- Intervals, walked one at a time.
-use Rattle.std.proofs.Common.{◌≡◌, ℕ, ◌+◌, ◌<◌, ◌≤◌, max, true, cond, ◌&&◌, ltb, leb, List, [], ◌∷◌, length, get_or, drop}
+use Rattle.std.proofs.Common.{◌≡◌, ℕ, ◌+◌, ◌<◌, ◌≤◌, max, true, cond, leb, List, ◌∷◌, length, get_or, drop}
 use Rattle.std.proofs.lemmas.List.{at_drop_more, at_drop_all}
 use Rattle.timetable.specs.declared.tables.Interval.{Interval}
 use Rattle.timetable.specs.Timetables.{no_interval, opening, ascending}

@@ -1,11 +1,11 @@
 -- The test of a road is its rule.
-use Rattle.std.specs.Prelude.{◌≡◌, ℕ, zero, suc, ◌+◌, ◌<◌, ◌≤◌, true, ◌&&◌, List, [], ◌∷◌, length, get_or, drop, Decides, slice_index_or, refl}
+use Rattle.std.specs.Prelude.{◌≡◌, ℕ, zero, suc, ◌+◌, ◌<◌, ◌≤◌, true, List, [], ◌∷◌, length, get_or, drop, Decides, slice_index_or, refl}
 use Rattle.std.proofs.Common.{suc-le-suc, sym, subst, ◌∙◌, arith, not-suc-le-zero, le_of_suc-le-suc}
 use Rattle.std.proofs.lemmas.List.{length-drop, length-take-le, get_or-take, get_or-drop}
 use Rattle.std.proofs.lemmas.Bool.{and_parts, and_from, ltb-true, leb-true, lt-ltb, le-leb}
 use Rattle.timetable.specs.declared.tables.Interval.{Interval}
 use Rattle.timetable.specs.declared.tables.TimedRoad.{TimedRoad}
-use Rattle.timetable.specs.Timetables.{no_interval, ascending, interval_of, KeepsRule, run_of, timed, road_right}
+use Rattle.timetable.specs.Timetables.{no_interval, ascending, interval_of, KeepsRule, run_of, road_right}
 use Rattle.timetable.specs.Entries.{ascending_tells}
 
 -- what the test of a road tells

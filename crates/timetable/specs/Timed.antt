@@ -1,5 +1,5 @@
 -- Exactly the timetables that keep their rule are accepted, and they mean a lawful network.
-use Rattle.std.specs.Prelude.{◌≡◌, ℕ, ◌+◌, ◌<◌, ◌≤◌, false, List, length, get_or, is_some, None, Decides, slice_index_or}
+use Rattle.std.specs.Prelude.{◌≡◌, ℕ, ◌+◌, ◌<◌, false, List, length, get_or, is_some, None, Decides, slice_index_or}
 use Rattle.std.proofs.Common.{ap, arith}
 use Rattle.network.specs.Net.{Lawful, Attained}
 use Rattle.network.specs.Judged.{Lowest, lowest, lowest_is, Sized, sizes_right, each_right, none_wrong}

@@ -1,11 +1,11 @@
 -- One road of a turn, and whole turns.
-use Rattle.std.proofs.Common.{◌≡◌, ℕ, ◌+◌, ◌<◌, ◌≤◌, Bool, true, false, List, get_or, Some, Ok, Err, Result, sym, refl, ap, ◌∙◌, subst, MatchResult}
+use Rattle.std.proofs.Common.{◌≡◌, ℕ, ◌<◌, ◌≤◌, true, false, List, get_or, Some, Ok, Err, Result, sym, refl, ap, ◌∙◌, subst, MatchResult}
 use Rattle.network.specs.Net.{Net, Lawful}
 use Rattle.worklist.specs.Work.{Work, Idle}
 use Rattle.runs.specs.declared.Figures.{Figures}
 use Rattle.runs.specs.declared.Outcome.TheVariants.{Settled}
 use Rattle.runs.specs.Ready.{Ready}
-use Rattle.runs.specs.Sheet.{State, state, with_list, labelled, at}
+use Rattle.runs.specs.Sheet.{State, state, labelled, at}
 use Rattle.runs.specs.Turns.{Due, Relaxed, Full, Filled, Passed, passes, relaxes, Turned, idles, relaxed, Stopped, Turns, Worked, settles}
 use Rattle.runs.proofs.Steps.{relaxed_ready, relaxed_labels}
 use Rattle.turns.specs.Passing.{Steps, Blocked}

@@ -1,5 +1,5 @@
 -- From parts that fit to a sheet that is ready for its turns, and back.
-use Rattle.std.proofs.Common.{◌≡◌, ℕ, ◌≤◌, List, length, sym, subst}
+use Rattle.std.proofs.Common.{◌≡◌, ℕ, List, sym, subst}
 use Rattle.network.specs.Net.{Net}
 use Rattle.runs.specs.declared.Figures.{Figures}
 use Rattle.runs.specs.Figured.{Right}

@@ -1,4 +1,4 @@
-use Rattle.std.proofs.Common.{◌≡◌, ℕ, ◌<◌, ◌≤◌, List, length, is_some, Some, None, Option, sym, refl, ap, ◌∙◌, subst, arith}
+use Rattle.std.proofs.Common.{◌≡◌, ℕ, ◌<◌, ◌≤◌, List, length, is_some, Option, sym, refl, ap, ◌∙◌, arith}
 use Rattle.layout.specs.Layout.{layout}
 use Rattle.layout.specs.Sheets.{rows}
 use Rattle.numeral.specs.Texts.{written}

@@ -1,5 +1,4 @@
-use Rattle.std.proofs.Common.{◌≡◌, ℕ, ◌+◌, ◌^◌, ◌<◌, length, sym, subst, arith}
-use Rattle.curve.specs.Curve.{reads, span, no_point}
+use Rattle.std.proofs.Common.{arith}
 use Rattle.curve.specs.Runs.{climbs_at, reads_between, reads_past}
 use Rattle.curve.proofs.reading.read_from.Goals as goal
 

@@ -1,4 +1,4 @@
-use Rattle.std.proofs.Common.{◌+◌, ◌-◌, ◌≤◌, take}
+use Rattle.std.proofs.Common.{◌-◌, take}
 use Rattle.std.specs.List.Sorted.{IsPermutation}
 use Rattle.queue.proofs.Heaps.{Sinks}
 use Rattle.queue.proofs.sift.sift_down.Given as goal

@@ -1,5 +1,4 @@
-use Rattle.std.proofs.Common.{◌≡◌, ℕ, ◌*◌, ◌≤◌, sym, ◌∙◌, mul-le-mul_right, mul-le-mul_left, arith}
-use Rattle.network.specs.Net.{Net}
+use Rattle.std.proofs.Common.{◌≤◌, sym, ◌∙◌, mul-le-mul_right, mul-le-mul_left, arith}
 use Rattle.relaxing.proofs.Told.{some_is}
 use Rattle.relaxing.proofs.sampling.allowance.Goals as goal
 

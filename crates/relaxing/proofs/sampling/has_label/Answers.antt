@@ -1,5 +1,5 @@
-use Rattle.std.proofs.Common.{◌≡◌, ℕ, ◌≤◌, not, eqb, List, length, get_or, sym, ap, ◌∙◌, arith}
-use Rattle.rows.specs.Rows.{points, width}
+use Rattle.std.proofs.Common.{ℕ, List, length, sym, ap, ◌∙◌, arith}
+use Rattle.rows.specs.Rows.{points}
 use Rattle.runs.specs.Sheet.{any}
 use Rattle.runs.proofs.Rows.{row_length, any_points}
 use Rattle.relaxing.proofs.sampling.has_label.Goals as goal

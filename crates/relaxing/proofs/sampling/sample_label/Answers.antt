@@ -1,8 +1,8 @@
-use Rattle.std.proofs.Common.{◌≡◌, ℕ, ◌+◌, ◌-◌, ◌<◌, ◌≤◌, List, length, get_or, take, sym, ap, ◌∙◌, subst, arith}
+use Rattle.std.proofs.Common.{◌≡◌, ℕ, ◌-◌, ◌≤◌, List, length, get_or, take, sym, ap, ◌∙◌, subst, arith}
 use Rattle.curve.specs.declared.points.Point.{Point}
 use Rattle.curve.specs.Curve.{reads}
 use Rattle.rows.specs.Rows.{points, width}
-use Rattle.runs.specs.Sheet.{row, label}
+use Rattle.runs.specs.Sheet.{label}
 use Rattle.runs.specs.Formed.{Label, latest}
 use Rattle.runs.proofs.Rows.{count_points, row_length}
 use Rattle.runs.proofs.Labels.{label_high, laid_label}

@@ -1,8 +1,8 @@
-use Rattle.std.proofs.Common.{◌≡◌, ℕ, ◌<◌, sym, ap, ◌∙◌, subst, arith}
+use Rattle.std.proofs.Common.{ℕ, ◌<◌, ap, arith}
 use Rattle.network.specs.Laws.{lawful_of}
 use Rattle.runs.specs.Formed.{latest}
 use Rattle.runs.specs.Sheet.{at}
-use Rattle.runs.proofs.Labels.{label_high, laid_label}
+use Rattle.runs.proofs.Labels.{label_high}
 use Rattle.runs.proofs.Keeping.{allow_small, latest_bound, tail_label}
 use Rattle.relaxing.proofs.step.corridor_of.Goals as goal
 

@@ -1,4 +1,4 @@
-use Rattle.std.proofs.Common.{◌≡◌, ℕ, ◌+◌, ◌<◌, List, length, get_or, sym, refl, ap, ◌∙◌, subst, arith}
+use Rattle.std.proofs.Common.{ℕ, ◌<◌, get_or, refl, subst, arith}
 use Rattle.network.specs.Laws.{lawful_of}
 use Rattle.relaxing.specs.Labels.{Relabelled}
 use Rattle.relaxing.proofs.Corridors.{asked_curves, relaxes_by, fills_by}

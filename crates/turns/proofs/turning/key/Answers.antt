@@ -1,4 +1,4 @@
-use Rattle.std.proofs.Common.{◌≡◌, ℕ, ◌<◌, List, length, get_or, sym, ap, ◌∙◌, subst, arith}
+use Rattle.std.proofs.Common.{ℕ, ◌<◌, List, length, get_or, sym, ap, ◌∙◌, arith}
 use Rattle.curve.specs.Curve.{no_point}
 use Rattle.rows.specs.Rows.{points}
 use Rattle.runs.proofs.Labels.{label_first, laid_label}

@@ -1,4 +1,4 @@
-use Rattle.std.proofs.Common.{◌≡◌, ◌<◌, sym, refl, ◌∙◌, arith}
+use Rattle.std.proofs.Common.{◌<◌, sym, ◌∙◌, arith}
 use Rattle.runs.specs.Turns.{begins}
 use Rattle.relaxing.proofs.Told.{granted}
 use Rattle.turns.proofs.Passing.{idle_turn, whole_turn, stopped_turn}

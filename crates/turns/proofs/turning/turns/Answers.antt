@@ -1,4 +1,4 @@
-use Rattle.std.proofs.Common.{◌≡◌, sym, refl, ◌∙◌, arith}
+use Rattle.std.proofs.Common.{sym, refl, ◌∙◌, arith}
 use Rattle.runs.specs.Turns.{at_first, then_one, fills, settles, pauses}
 use Rattle.turns.proofs.Passing.{settles_idle, as_many}
 use Rattle.turns.proofs.turning.turns.Goals as goal

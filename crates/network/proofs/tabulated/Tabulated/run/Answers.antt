@@ -1,4 +1,4 @@
-use Rattle.std.proofs.Common.{get_or, arith, rules}
+use Rattle.std.proofs.Common.{get_or, rules}
 use Rattle.network.specs.Tables.{no_road}
 use Rattle.network.specs.Tabled.{rule_at, points_at}
 use Rattle.network.proofs.Walks.{run_part}

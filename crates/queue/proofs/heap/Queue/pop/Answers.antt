@@ -1,4 +1,4 @@
-use Rattle.std.proofs.Common.{◌≡◌, ◌+◌, take, refl, ap, arith}
+use Rattle.std.proofs.Common.{◌≡◌, ◌+◌, arith}
 use Rattle.queue.proofs.Heaps as heaps
 use Rattle.queue.proofs.heap.Queue.pop.Goals as goal
 

@@ -1,4 +1,4 @@
-use Rattle.std.proofs.Common.{◌+◌, ◌∷◌, take, set, arith, length-set}
+use Rattle.std.proofs.Common.{◌+◌, ◌∷◌, take, arith, length-set}
 use Rattle.queue.proofs.Heaps as heaps
 use Rattle.queue.proofs.heap.Queue.push.Goals as goal
 

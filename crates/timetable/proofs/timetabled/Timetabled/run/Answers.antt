@@ -1,4 +1,4 @@
-use Rattle.std.proofs.Common.{get_or, arith, rules}
+use Rattle.std.proofs.Common.{get_or, rules}
 use Rattle.network.proofs.Walks.{run_part}
 use Rattle.timetable.specs.Timetables.{no_road}
 use Rattle.timetable.specs.Timed.{rule_at, intervals_at}

@@ -1,7 +1,5 @@
 use Rattle.std.proofs.Common.{arith}
 use Rattle.std.proofs.lemmas.Bool.{eqb-true, eqb-false}
-use Rattle.worklist.specs.Fifos.{fifo_work}
-use Rattle.worklist.specs.Work.{Idle}
 use Rattle.worklist.proofs.Whens.{when_from}
 use Rattle.worklist.proofs.Waiting.{none_waits, some_waits}
 use Rattle.worklist.proofs.fifo.FifoWorkList.is_empty.Goals as goal

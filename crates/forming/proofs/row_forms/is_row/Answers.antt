@@ -2,8 +2,8 @@ use Rattle.std.proofs.Common.{arith}
 use Rattle.std.proofs.lemmas.Bool.{eq-eqb}
 use Rattle.forming.proofs.Blanks.{zero_part, zero_part⁻, holds_label, is_blank, row_tells}
 use Rattle.forming.proofs.Whens.{when_map, when_so}
-use Rattle.forming.proofs.rows.is_row.Goals as goal
-use Rattle.forming.proofs.rows.is_row.Goals.{then-count-places-via-then-count-places, then-count-places-via-else-count-places+then-not-is_zero}
+use Rattle.forming.proofs.row_forms.is_row.Goals as goal
+use Rattle.forming.proofs.row_forms.is_row.Goals.{then-count-places-via-then-count-places, then-count-places-via-else-count-places+then-not-is_zero}
 
 pub returns-then-count-places : goal.returns-then-count-places
 returns-then-count-places c = record {

@@ -1,7 +1,7 @@
 use Rattle.std.proofs.Common.{ℕ, List, get_or, ap, ◌∙◌, arith}
 use Rattle.std.proofs.lemmas.List.{get_or-replicate}
 use Rattle.forming.proofs.Blanks.{zeros}
-use Rattle.forming.proofs.rows.is_zero.Goals as goal
+use Rattle.forming.proofs.row_forms.is_zero.Goals as goal
 
 pub returns-then-x-ne0 : goal.returns-then-x-ne0
 returns-then-x-ne0 c =

@@ -1,7 +1,7 @@
 use Rattle.forming.proofs.Blanks.{zero_part, zero_part⁻, diagonal_tells, diagonal_made}
 use Rattle.forming.proofs.Whens.{when_map}
-use Rattle.forming.proofs.rows.is_origin_row.Goals as goal
-use Rattle.forming.proofs.rows.is_origin_row.Goals.{then-row-ne2-via-then-row-ne2, then-row-ne2-via-else-row-ne2+then-row-ne0, then-row-ne2-via-else-row-ne2+else-row-ne0+then-row-ne0-2, then-row-ne2-via-else-row-ne2+else-row-ne0+else-row-ne0-2+then-row-window, then-row-ne2-via-else-row-ne2+else-row-ne0+else-row-ne0-2+else-row-window+then-row-window-2}
+use Rattle.forming.proofs.row_forms.is_origin_row.Goals as goal
+use Rattle.forming.proofs.row_forms.is_origin_row.Goals.{then-row-ne2-via-then-row-ne2, then-row-ne2-via-else-row-ne2+then-row-ne0, then-row-ne2-via-else-row-ne2+else-row-ne0+then-row-ne0-2, then-row-ne2-via-else-row-ne2+else-row-ne0+else-row-ne0-2+then-row-window, then-row-ne2-via-else-row-ne2+else-row-ne0+else-row-ne0-2+else-row-window+then-row-window-2}
 
 pub returns-then-row-ne2 : goal.returns-then-row-ne2
 returns-then-row-ne2 c = record {
