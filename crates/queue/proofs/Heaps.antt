@@ -3,7 +3,7 @@ use Rattle.std.proofs.Common.{◌≡◌, ℕ, zero, suc, ◌+◌, ◌-◌, ◌*�
 use lib.Seq.{take-set-lt}
 use Rattle.std.specs.Cmp.{IsStrictWeakOrder}
 use Rattle.std.specs.List.Sorted.{IsPermutation}
-use Rattle.std.specs.List.{ContainsAt as Has}
+use Rattle.std.specs.List.{ContainsAt}
 use Rattle.std.proofs.Permutation.{which, Swapped}
 use Rattle.std.proofs.lemmas.List.{get_or-take, length-take-le, take_more, take_more_set}
 use Rattle.std.proofs.ByRecursion.{All-from_get_or, has_get_or}
@@ -206,6 +206,6 @@ module _ {X : Type 0} (before : X → X → Bool) where
 
   pub first_top : IsStrictWeakOrder before → (xs : List X) (n : ℕ) (d : X) → 0 < n → n ≤ length xs → Ordered before xs n → First before (get_or xs 0 d) (take n xs)
   first_top o xs n d some le h = record {
-    held = subst (Has (take n xs)) (get_or-take n xs 0 d some) (has_get_or (take n xs) 0 d (omega (arith, length-take-le n xs le)));
+    held = subst (ContainsAt (take n xs)) (get_or-take n xs 0 d some) (has_get_or (take n xs) 0 d (omega (arith, length-take-le n xs le)));
     least = least_top o xs n d le h;
   }
