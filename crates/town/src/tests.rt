@@ -70,7 +70,7 @@ fn settles(rt: HostRuntime) -> Result<(), Fail> {
     );
     assert_eq!(rt;
         &rows[51..68],
-        [5, 0, 20, 16, 37, 25, 55, 28, 58, 60, 82, 0, 0, 0, 0, 0, 0]
+        [5, 0, 20, 16, 37, 25, 55, 28, 58, 60, 82, 0, 0, 0, 0, 0, 0].as_slice()
     );
     Ok(())
 }
@@ -86,7 +86,7 @@ fn is_full_at_road_3(rt: HostRuntime) -> Result<(), Fail> {
         work(&net, &heading, &mut rows, &marks, &mut list, 10)?,
         (2, Outcome::Full(3))
     );
-    assert_eq!(rt; &rows[27..36], [3, 0, 22, 20, 52, 60, 82, 0, 0]);
+    assert_eq!(rt; &rows[27..36], [3, 0, 22, 20, 52, 60, 82, 0, 0].as_slice());
     Ok(())
 }
 
