@@ -55,11 +55,11 @@ module _ (lo up : ℕ → ℕ) (p : Point) where
       rw (← add-one s)
       (elim (serves_or_not s (lo s)) [
         | inl h ↦ (_, next_here lo up p s later _ h (inl refl))
-        | inr no-lo ↦ elim (serves_or_not s (up s)) [
-          | inl h ↦ (_, next_here lo up p s later _ h (inr (refl, no-lo)))
-          | inr no-up ↦ elim (cases_lt (p.departure + 1) s) [
-            | inl a ↦ let q = old (omega arith) a in (q.0, next_on lo up p s later low q.0 (λ _. q.1) no-lo no-up)
-            | inr a ↦ (p, next_on lo up p s later low p (λ l. let no : ⊥ = omega arith in elim no [ ]) no-lo no-up)
+        | inr no_lo ↦ elim (serves_or_not s (up s)) [
+          | inl h ↦ (_, next_here lo up p s later _ h (inr (refl, no_lo)))
+          | inr no_up ↦ elim (cases_lt (p.departure + 1) s) [
+            | inl a ↦ let q = old (omega arith) a in (q.0, next_on lo up p s later low q.0 (λ _. q.1) no_lo no_up)
+            | inr a ↦ (p, next_on lo up p s later low p (λ l. let no : ⊥ = omega arith in elim no [ ]) no_lo no_up)
           ]
         ]
       ]))

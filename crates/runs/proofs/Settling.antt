@@ -114,8 +114,8 @@ module _ {L : Type 0} (w : Work L) (orderly : Orderly w) (net : Net) (laws : Law
         (same r k))
         (same (net.tail r) (net.head k))
 
-    abbrev Stands_at : Figures → Type 0
-    Stands_at g = (r : ℕ) → r < net.roads → get_or s.marks r 0 ≡ 0 → labelled g s'.rows (net.tail r) ≡ true → w.waits s'.list (net.tail r) ≡ false → (net.tail r ≡ u → r < k + 1) → Within net g s'.rows r
+    abbrev StandsAt : Figures → Type 0
+    StandsAt g = (r : ℕ) → r < net.roads → get_or s.marks r 0 ≡ 0 → labelled g s'.rows (net.tail r) ≡ true → w.waits s'.list (net.tail r) ≡ false → (net.tail r ≡ u → r < k + 1) → Within net g s'.rows r
 
     changed_on : On s' u (k + 1)
     changed_on = record {
@@ -127,7 +127,7 @@ module _ {L : Type 0} (w : Work L) (orderly : Orderly w) (net : Net) (laws : Law
         laid = replaced_laid net laws f ready.right ready.nodes s.rows ready.laid k d.road from s'.rows c.needed c.replaced;
       });
       some = subst (λ (g : Figures). labelled g s'.rows u ≡ true) (sym c.heading) (changed_falls.labels u at_turn.some);
-      even = λ first r road unmarked. subst Stands_at (sym c.heading) (even_still first) r road (ap (λ (ms : List ℕ). get_or ms r 0) (sym c.marks) ∙ unmarked);
+      even = λ first r road unmarked. subst StandsAt (sym c.heading) (even_still first) r road (ap (λ (ms : List ℕ). get_or ms r 0) (sym c.marks) ∙ unmarked);
     }
 
   -- one road of a turn
