@@ -4,7 +4,7 @@
 usage: python3 tools/respell.py [--check]        at the top of the repository, once, after the kit's port.py
 
 Types and facts are in upper camel case (Line-laws becomes LineLaws), all else is in snake case (no-point becomes no_point).
-It turns whole names alone, in .antt files and in clauses and ghost items of .rt files. No name of Rust's has a dash.
+It turns whole names alone, in .antt and .rt files. No name of Rust's has a dash, so of code only clauses and ghost items change.
 Comments, strings, the names of Rust functions and the names that Rattle makes of goals and steps stay as they are.
 Where two names would fall together in one file, it says so and writes nothing.
 """
