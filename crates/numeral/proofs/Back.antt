@@ -37,7 +37,7 @@ reads_what_is_written n h = rw (decimal_numeral n h, decimal_number n h) refl
 -- a number that was read
 some_number : (b : Bool) (m n : ℕ) → cond b (Some m) None ≡ Some n → (b ≡ true) × (m ≡ n)
 some_number true m n e = (refl, (cc))
-some_number false m n e = let z : ◌≡◌ {A = ℕ} 0 1 = cc in grind arith
+some_number false m n e = absurd (cc)
 
 pub writes_what_is_read : WritesWhatIsRead
 writes_what_is_read text n e h =

@@ -1,6 +1,6 @@
 pub mod Back
 pub mod Cuts
-pub mod Lines
+pub mod FirstLine
 pub mod Order
 pub mod Reading
 pub mod Written

@@ -1,8 +1,10 @@
 -- Texts written into others, one after another.
-use Rattle.std.proofs.Common.{◌≡◌, ℕ, ◌+◌, ◌/◌, ◌%◌, ◌^◌, ◌<◌, ◌≤◌, List, [], ◌∷◌, ◌++◌, length, take, drop, set, decimal, sym, ap, ◌∙◌, add-zero, add-one, arith}
+use Rattle.std.proofs.Common.{◌≡◌, ℕ, zero, suc, ◌+◌, ◌*◌, ◌/◌, ◌%◌, ◌^◌, ◌<◌, ◌≤◌, List, [], ◌∷◌, ◌++◌, length, take, drop, set, decimal, sym, ap, ◌∙◌, add-zero, add-one, arith}
+use Rattle.std.proofs.Math.Nat.{pow-suc, one-le-pow}
 use Rattle.numeral.specs.Texts.{written}
-use Rattle.std.proofs.lemmas.Fmt.{decimal_step}
-use Rattle.std.proofs.lemmas.List.{append_assoc, drop_at, drop-drop, length-append, length-drop, length_push, length-take-le, set_split, take-append-drop, take_at}
+use Rattle.std.proofs.lemmas.Fmt.{decimal_digit, decimal_step}
+use Rattle.std.proofs.lemmas.Grind.{common_steps}
+use Rattle.std.proofs.lemmas.List.{append_assoc, drop_at, drop-drop, length-append, length_push, set_split, take-append-drop, take_at}
 
 -- the digits of a number are those of its tenth, and one more
 pub length_step : (n : ℕ) → 10 ≤ n → n < 2 ^ 64 → length (decimal n) ≡ length (decimal (n / 10)) + 1
@@ -14,13 +16,10 @@ written_none a xs = rw add-zero (sym (take-append-drop a xs))
 
 -- a text in three parts
 pub front_length : (a : ℕ) (s xs : List ℕ) → a ≤ length xs → length (take a xs ++ s) ≡ a + length s
-front_length a s xs h = length-append (take a xs) s ∙ ap (λ n. n + length s) (length-take-le a xs h)
+front_length a s xs h = grind (arith, common_steps)
 
 pub length_written : (a : ℕ) (s xs : List ℕ) → a + length s ≤ length xs → length (written a s xs) ≡ length xs
-length_written a s xs h =
-    let l : a ≤ length xs = omega arith in
-    let f = length-take-le a xs l in
-    simp (length-append, length-drop, f) (omega arith)
+length_written a s xs h = grind (arith, common_steps)
 
 -- one text after another
 pub written_more : (a : ℕ) (s t xs : List ℕ) → a + length s + length t ≤ length xs → written (a + length s) t (written a s xs) ≡ written a (s ++ t) xs
@@ -52,3 +51,11 @@ written_push a s b xs ys n e f h =
 -- a text after another that was written
 pub written_on : (a : ℕ) (s t xs ys zs : List ℕ) (n : ℕ) → ys ≡ written a s xs → n ≡ a + length s → zs ≡ written n t ys → a + length s + length t ≤ length xs → zs ≡ written a (s ++ t) xs
 written_on a s t xs ys zs n e f g h = g ∙ rw (f, e) (written_more a s t xs h)
+
+-- a number between two powers of ten that follow each other
+pub length_power : (k n : ℕ) → 10 ^ k ≤ n → n < 10 * 10 ^ k → n < 2 ^ 64 → length (decimal n) ≡ k + 1
+length_power zero n l h b = ap length (decimal_digit n (omega arith))
+length_power (suc k) n l h b =
+    let p : 10 ^ suc k ≡ 10 ^ k * 10 = pow-suc 10 k in
+    let one = one-le-pow k 10 (omega arith) in
+    length_step n (omega arith) b ∙ omega (arith, length_power k (n / 10) (omega arith) (omega arith) (omega arith))

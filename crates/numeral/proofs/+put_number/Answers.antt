@@ -18,9 +18,6 @@ put_number-last-requires t c = omega (arith, length_step c.args.n (omega arith) 
 pub bounds-buffer-last : goal.bounds-buffer-last
 bounds-buffer-last t c = omega (arith, length_step c.args.n (omega arith) (omega arith))
 
-pub overflow_add-result-2 : goal.overflow_add-result-2
-overflow_add-result-2 t c = omega (arith, length_step c.args.n (omega arith) (omega arith))
-
 pub returns : goal.returns
 returns t c =
     let e = length_step c.args.n (omega arith) (omega arith) in

@@ -1,12 +1,11 @@
+use Rattle.std.proofs.Common.{arith}
 use Rattle.numeral.proofs.Cuts.{cut_here, cut_none}
 use Rattle.numeral.proofs.cut_at.Goals as goal
+use Rattle.std.proofs.lemmas.Grind.{common_steps}
 use Rattle.std.proofs.lemmas.List.{take_rest}
-use Rattle.std.proofs.Common.{arith}
 
-pub returns-then-text-i : goal.returns-then-text-i
-returns-then-text-i c =
-    let h = cut_here c.args.mark c.args.text.now c.loop-i.i c.loop-i-test.true c.loop-i.invariant c.if-text-i.true in
-    record { cuts_at_first = rw take_rest (cc) }
+pub returns-in_err-at : goal.returns-in_err-at
+returns-in_err-at c = record { cuts_at_first = rw c.from_residual.ensures (cut_none c.args.mark c.args.text.now (λ k l e. grind (arith, common_steps))) }
 
 pub returns : goal.returns
-returns c = record { cuts_at_first = cut_none c.args.mark c.args.text.now (λ k l. c.loop-i.invariant k (omega arith)) }
+returns c = record { cuts_at_first = rw take_rest (cut_here c.args.mark c.args.text.now c.in_ok-at.at (grind (arith, common_steps)) (λ k l e. grind (arith, common_steps)) (grind (arith, common_steps))) }
