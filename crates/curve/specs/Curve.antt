@@ -1,5 +1,5 @@
 -- A run of points, and what it reads at a minute.
-use Rattle.std.specs.Prelude.{ℕ, ◌+◌, ◌-◌, ◌*◌, ◌/◌, Bool, true, cond, ◌&&◌, List, [], ◌∷◌, nat_le, nat_lt}
+use Rattle.std.specs.Prelude.{ℕ, ◌+◌, ◌-◌, ◌*◌, ◌/◌, ◌<◌, ◌≤◌, Bool, true, cond, ◌&&◌, List, [], ◌∷◌, length, nat_le, nat_lt, slice_index_or}
 use Rattle.curve.specs.declared.points.Point.{Point}
 
 -- what stands where no point does
@@ -36,3 +36,9 @@ climbing_from p (q ∷ qs) = climbs p q && climbing_from q qs
 abbrev pub climbing : List Point → Bool
 climbing [] = true
 climbing (p ∷ ps) = climbing_from p ps
+
+-- of a run of points, i is the last to set out at minute x or before
+pub record IsLastBy (ps : List Point) (i x : ℕ) : Type 0 where
+  pub inside : i < length ps
+  pub from : (slice_index_or ps i no_point).departure ≤ x
+  pub to : i + 1 < length ps → x < (slice_index_or ps (i + 1) no_point).departure

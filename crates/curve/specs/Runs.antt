@@ -1,7 +1,10 @@
 -- The laws of reading a run of points.
 use Rattle.std.specs.Prelude.{◌≡◌, ℕ, zero, suc, ◌+◌, ◌<◌, ◌≤◌, Bool, true, cond, List, [], ◌∷◌, length, get_or, nat_lt, slice_index_or, refl}
-use Rattle.std.proofs.Common.{sym, ap, subst, ◌∙◌, arith, le_trans, not-suc-le-zero, le_of_suc-le-suc, lt-ltb, le-ltb}
-use Rattle.std.proofs.lemmas.Bool.{cond_both, ltb-true, ltb-false, leb-true, and_parts}
+use Rattle.std.proofs.Common.{sym, ap, subst, ◌∙◌, arith, le_trans, not-suc-le-zero, lt-ltb, le-ltb}
+use Rattle.std.proofs.lemmas.Bool.{cond_both, ltb-true, ltb-false, leb-true, and_parts, and_from}
+use Rattle.std.proofs.lemmas.List.{get_or_default}
+use Rattle.std.proofs.lemmas.List.Sorted.{IsNonDecreasingBy-from_all_adjacent}
+use Rattle.std.specs.List.Sorted.{IsNonDecreasingBy}
 use Rattle.curve.specs.declared.points.Point.{Point}
 use Rattle.curve.specs.Curve.{no_point, span, between, along, reads, climbs, climbing_from, climbing}
 use Rattle.curve.specs.Lines.{between_start, between_from, between_to, between_mono, between_low, between_high}
@@ -103,18 +106,26 @@ climbs_at (p ∷ (q ∷ qs)) (suc i) e h =
     let s : suc i + 1 ≡ suc (i + 1) = omega arith in
     subst (λ (j : ℕ). climbs (slice_index_or (q ∷ qs) i no_point) (slice_index_or (p ∷ (q ∷ qs)) j no_point) ≡ true) (sym s) r
 
+-- points climb where each climbs to the next
+pub climbing_from_pairs : (ps : List Point) → ((i : ℕ) → i + 1 < length ps → climbs (slice_index_or ps i no_point) (slice_index_or ps (i + 1) no_point) ≡ true) → climbing ps ≡ true
+climbing_from_pairs [] f = refl
+climbing_from_pairs (p ∷ []) f = refl
+climbing_from_pairs (p ∷ (q ∷ qs)) f =
+    and_from _ _ (f 0 (omega arith))
+    (climbing_from_pairs (q ∷ qs) (λ i h.
+    let e : suc i + 1 ≡ suc (i + 1) = omega arith in
+    subst (λ (j : ℕ). climbs (slice_index_or (q ∷ qs) i no_point) (slice_index_or (p ∷ (q ∷ qs)) j no_point) ≡ true) e (f (suc i) (omega arith))))
+
 pub rises_at : (ps : List Point) (i : ℕ) → climbing ps ≡ true → i + 1 < length ps → ((get_or ps i no_point).departure < (get_or ps (i + 1) no_point).departure) × ((get_or ps i no_point).arrival ≤ (get_or ps (i + 1) no_point).arrival)
 rises_at ps i e h = climbs_tells (slice_index_or ps i no_point) (slice_index_or ps (i + 1) no_point) (climbs_at ps i e h)
 
--- no point sets out before the first
-pub after_first : (ps : List Point) (i : ℕ) → climbing ps ≡ true → i < length ps → (get_or ps 0 no_point).departure ≤ (get_or ps i no_point).departure
-after_first [] i e h = absurd (not-suc-le-zero h)
-after_first (p ∷ ps) zero e h = omega arith
-after_first (p ∷ []) (suc i) e h = absurd (not-suc-le-zero (le_of_suc-le-suc h))
-after_first (p ∷ (q ∷ qs)) (suc i) e h =
-    let t = climbing_tells p q qs e in let c = climbs_tells p q t.0 in
-    let r = after_first (q ∷ qs) i t.1 (le_of_suc-le-suc h) in
-    omega arith
+-- no point sets out before one that stands before it
+pub departures_rise : (ps : List Point) → climbing ps ≡ true → IsNonDecreasingBy (λ (p : Point). p.departure) ps
+departures_rise ps e = IsNonDecreasingBy-from_all_adjacent (λ (p : Point). p.departure) ps
+    (λ k d h.
+    let here = ap (λ (p : Point). p.departure) (get_or_default ps k d no_point (omega arith)) in
+    let next = ap (λ (p : Point). p.departure) (get_or_default ps (k + 1) d no_point h) in
+    omega (arith, here, next, (rises_at ps k e h).0))
 
 -- between two points next to each other a run reads their line
 pub reads_between : (ps : List Point) (i x : ℕ) → climbing ps ≡ true → i + 1 < length ps → (get_or ps i no_point).departure ≤ x → x < (get_or ps (i + 1) no_point).departure → reads ps x ≡ between (slice_index_or ps i no_point) (slice_index_or ps (i + 1) no_point) x
@@ -127,7 +138,7 @@ reads_between (p ∷ (q ∷ qs)) (suc i) x e h a b =
     let s : suc i + 1 ≡ suc (i + 1) = omega arith in
     let t = climbing_tells p q qs e in
     let b' : x < (get_or (q ∷ qs) (i + 1) no_point).departure = subst (λ (j : ℕ). x < (get_or (p ∷ (q ∷ qs)) j no_point).departure) s b in
-    let past : q.departure ≤ x = le_trans (after_first (q ∷ qs) i t.1 (omega arith)) a in
+    let past : q.departure ≤ x = le_trans (departures_rise (q ∷ qs) t.1 0 i no_point (omega arith) (omega arith)) a in
     let r = reads_between (q ∷ qs) i x t.1 k a b' in
     subst (λ (j : ℕ). along p (q ∷ qs) x ≡ between (slice_index_or (q ∷ qs) i no_point) (slice_index_or (p ∷ (q ∷ qs)) j no_point) x) (sym s)
     (ap (λ (c : Bool). cond c (between p q x) (along q qs x)) (le-ltb x q.departure past) ∙ r)
@@ -141,6 +152,6 @@ reads_past (p ∷ []) (suc i) x e h a = absurd (omega (arith, h))
 reads_past (p ∷ (q ∷ qs)) zero x e h a = absurd (omega (arith, h))
 reads_past (p ∷ (q ∷ qs)) (suc i) x e h a =
     let t = climbing_tells p q qs e in
-    let past : q.departure ≤ x = le_trans (after_first (q ∷ qs) i t.1 (omega arith)) a in
+    let past : q.departure ≤ x = le_trans (departures_rise (q ∷ qs) t.1 0 i no_point (omega arith) (omega arith)) a in
     let r = reads_past (q ∷ qs) i x t.1 (omega arith) a in
     ap (λ (c : Bool). cond c (between p q x) (along q qs x)) (le-ltb x q.departure past) ∙ r

@@ -4,6 +4,8 @@
 
 mod points;
 mod reading;
+mod runs;
 
 pub use points::Point;
-pub use reading::{laws_stand, line_at, read, sample};
+pub use reading::{laws_stand, line_at};
+pub use runs::{Run, is_climbing};

@@ -4,7 +4,7 @@ use Rattle.refusal.specs.declared.Refusal.{Refusal}
 use Rattle.refusal.specs.declared.Refusal.TheVariants.{Table, Quota}
 use Rattle.network.specs.Net.{Net}
 use Rattle.joined.specs.declared.Place.{Place}
-use Rattle.joined.specs.declared.Place.TheVariants.{First, Second, Nowhere}
+use Rattle.joined.specs.declared.Place.TheVariants.{First, Second}
 
 -- why two networks may not be joined, if they may not: different nodes, else too many roads
 abbrev pub join_fault : Net → Net → Option Refusal
@@ -16,9 +16,9 @@ join_fault a b =
 abbrev pub added : Net → Net → ℕ
 added a b = cond (is_some (join_fault a b)) 0 b.roads
 
--- the part that has the road r, and r's number there
-abbrev pub place : Net → Net → ℕ → Place
-place a b r = cond (nat_lt r a.roads) (First r) (cond (nat_lt (r - a.roads) (added a b)) (Second (r - a.roads)) Nowhere)
+-- the part that has the road r, and r's number there; none where there is no such road
+abbrev pub place : Net → Net → ℕ → Option Place
+place a b r = cond (nat_lt r a.roads) (Some (First r)) (cond (nat_lt r (a.roads + added a b)) (Some (Second (r - a.roads))) None)
 
 abbrev pub part : ℕ → (ℕ → ℕ) → (ℕ → ℕ) → ℕ → ℕ
 part m f g r = cond (nat_lt r m) (f r) (g (r - m))

@@ -60,20 +60,16 @@ fn in_pairs(rt: &impl Abort, tabulated: &Tabulated, timetabled: &Timetabled) -> 
 fn has_the_roads_of_all_parts(rt: HostRuntime) -> Result<(), Fail> {
     let roads = [ROAD];
     let timed = [TIMED];
-    Tabulated::check(2, &roads, &POINTS)?;
-    Timetabled::check(2, &timed, &INTERVALS)?;
-    let tabulated = Tabulated::new(2, &roads, &POINTS);
-    let timetabled = Timetabled::new(2, &timed, &INTERVALS);
+    let tabulated = Tabulated::try_new(2, &roads, &POINTS)?;
+    let timetabled = Timetabled::try_new(2, &timed, &INTERVALS)?;
     in_pairs(&rt, &tabulated, &timetabled)
 }
 
 #[test]
 fn refuses_what_does_not_fit(rt: HostRuntime) -> Result<(), Fail> {
     let roads = [ROAD; 2049];
-    Tabulated::check(2, &roads, &POINTS)?;
-    Tabulated::check(3, &roads, &POINTS)?;
-    let two = Tabulated::new(2, &roads, &POINTS);
-    let three = Tabulated::new(3, &roads, &POINTS);
+    let two = Tabulated::try_new(2, &roads, &POINTS)?;
+    let three = Tabulated::try_new(3, &roads, &POINTS)?;
     assert_eq!(rt; Joined::new(&two, &three).err(), Some(Refusal::Table(None)));
     assert_eq!(rt;
         Joined::new(&two, &two).err(),

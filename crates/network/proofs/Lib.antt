@@ -1,2 +1,1 @@
 pub mod Routing
-pub mod Walks

@@ -1,7 +1,7 @@
 pub mod Net
 pub mod Routes
-pub mod Laws
 pub mod Judged
+pub mod Kinds
 pub mod Tables
 pub mod Runs
 pub mod Rules

@@ -1,11 +1,13 @@
 -- Tabulated roads: the rule of a road, and what its points mean.
-use Rattle.std.specs.Prelude.{◌≡◌, ℕ, ◌+◌, ◌<◌, ◌≤◌, min, Bool, true, ◌&&◌, List, [], ◌∷◌, length, get_or, take, drop, Option, ◌==◌, nat_le, nat_lt, slice_index_or}
+use Rattle.std.specs.Prelude.{◌≡◌, ℕ, ◌+◌, ◌<◌, ◌≤◌, min, Bool, ◌&&◌, List, length, map, get_or, take, drop, Option, ◌==◌, nat_le, nat_lt, slice_index_or}
+use Rattle.std.specs.List.{list_all, reduce}
+use Rattle.std.specs.Option.{unwrap_or}
 use Rattle.refusal.specs.declared.Refusal.{Refusal}
 use Rattle.curve.specs.declared.points.Point.{Point}
 use Rattle.curve.specs.Curve.{no_point, span, reads, climbing}
 use Rattle.network.specs.declared.tables.Road.{Road}
 use Rattle.network.specs.Net.{Net}
-use Rattle.network.specs.Judged.{lowest, table_fault}
+use Rattle.network.specs.Kinds.{Kind, fault, meant}
 
 -- what stands where no road does
 abbrev pub no_road : Road
@@ -39,8 +41,7 @@ abbrev pub point_right : Point → Bool
 point_right p = nat_le p.departure 100000 && (nat_lt p.departure p.arrival && nat_le p.arrival (p.departure + 10000))
 
 abbrev pub points_right : List Point → Bool
-points_right [] = true
-points_right (p ∷ ps) = point_right p && points_right ps
+points_right = list_all point_right
 
 -- a run: departures rise from 0, arrivals never fall, and each point is right alone
 abbrev pub run_right : List Point → Bool
@@ -52,26 +53,25 @@ road_right n points road =
     nat_lt road.tail n && (nat_lt road.head n && (nat_le (road.first + road.count) (length points)
     && (nat_le 1 road.count && (nat_le road.count 48 && run_right (run_of points road)))))
 
+-- the smallest time that passes at a point of a run
+abbrev pub quickest : List Point → ℕ
+quickest ps = unwrap_or (reduce min (map span ps)) 0
+
+-- the kind of tabulated roads
+abbrev pub road_kind : Kind Road Point
+road_kind = record {
+  no_road = no_road;
+  tail = λ road. road.tail;
+  head = λ road. road.head;
+  right = road_right;
+  least = λ points road. quickest (run_of points road);
+  cross = λ points road. reads (run_of points road);
+}
+
 -- why tables are refused, if they are
 abbrev pub tables_fault : ℕ → List Road → List Point → Option Refusal
-tables_fault n roads points = table_fault n (length roads) (lowest (road_right n points) roads)
-
--- the smallest time that passes at a point of a run
-abbrev pub quickest_of : ℕ → List Point → ℕ
-quickest_of l [] = l
-quickest_of l (p ∷ ps) = quickest_of (min l (span p)) ps
-
-abbrev pub quickest : List Point → ℕ
-quickest [] = 0
-quickest (p ∷ ps) = quickest_of (span p) ps
+tables_fault = fault road_kind
 
 -- what tables mean
 abbrev pub tabulated : ℕ → List Road → List Point → Net
-tabulated n roads points = record {
-  nodes = n;
-  roads = length roads;
-  tail = λ r. (get_or roads r no_road).tail;
-  head = λ r. (get_or roads r no_road).head;
-  least = λ r. quickest (run_of points (slice_index_or roads r no_road));
-  cross = λ r x. reads (run_of points (slice_index_or roads r no_road)) x;
-}
+tabulated = meant road_kind

@@ -1,7 +1,7 @@
 //! What a network answers, by what it means.
 
-ghost use Rattle.std.specs.Prelude.{◌≡◌, ℕ, ◌+◌, ◌<◌, ◌≤◌};
-ghost use Rattle.network.specs.Net.{Net, crossing, told};
+ghost use Rattle.std.specs.Prelude.{◌≡◌};
+ghost use Rattle.network.specs.Net.{Lawful, Net, crossing, told};
 
 /// The most nodes that a network has.
 pub const MOST_NODES: u32 = 1_024;
@@ -12,28 +12,10 @@ pub const MOST_ROADS: u32 = 4_096;
 /// The last minute at which a road's crossing may be asked.
 pub const LAST_MINUTE: u32 = 20_461_440;
 
-/// A network of 1 to 1,024 nodes and at most 4,096 roads. Every kind of network owes the laws below, so
-/// that code over any network may use them. Questions alter nothing.
+/// A network of 1 to 1,024 nodes and at most 4,096 roads. Every kind of network owes the law that it is a
+/// lawful one, so that code over any network may use it. Questions alter nothing.
 pub trait Network {
     ghost means: { Self → Net };
-
-    ghost some: { (s : Self) → 1 ≤ (means s).nodes };
-
-    ghost few: { (s : Self) → (means s).nodes ≤ 1024 };
-
-    ghost paved: { (s : Self) → (means s).roads ≤ 4096 };
-
-    ghost tails: { (s : Self) (r : ℕ) → r < (means s).roads → (means s).tail r < (means s).nodes };
-
-    ghost heads: { (s : Self) (r : ℕ) → r < (means s).roads → (means s).head r < (means s).nodes };
-
-    ghost takes: { (s : Self) (r : ℕ) → r < (means s).roads → 1 ≤ (means s).least r };
-
-    ghost early: { (s : Self) (r x : ℕ) → r < (means s).roads → x + (means s).least r ≤ (means s).cross r x };
-
-    ghost late: { (s : Self) (r x : ℕ) → r < (means s).roads → (means s).cross r x ≤ x + 10000 };
-
-    ghost order: { (s : Self) (r x y : ℕ) → r < (means s).roads → x ≤ y → (means s).cross r x ≤ (means s).cross r y };
 
     /// How many nodes there are.
     fn nodes(&self) -> u32
@@ -59,4 +41,6 @@ pub trait Network {
     /// or `x` is over 20,461,440.
     fn cross(&self, r: u32, x: u32) -> Option<u32>
         ensures cross_as_meant { result ≡ crossing (means self.now) r x };
+
+    ghost lawful: { (s : Self) → Lawful (means s) };
 }

@@ -1,5 +1,5 @@
 /// A tabulated road: its ends, and its points as a run inside the point table.
-#[derive(Clone, Copy, PartialEq, Eq, Debug)]
+#[derive(Clone, Copy, PartialEq, Eq, Debug, Default)]
 pub struct Road {
     pub tail: u32,
     pub head: u32,

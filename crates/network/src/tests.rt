@@ -36,8 +36,7 @@ fn road(first: u32, count: u32) -> Road {
 #[test]
 fn crosses_by_its_points(rt: HostRuntime) -> Result<(), Fail> {
     let roads = [road(0, 3), road(0, 1)];
-    Tabulated::check(2, &roads, &POINTS)?;
-    let net = Tabulated::new(2, &roads, &POINTS);
+    let net = Tabulated::try_new(2, &roads, &POINTS)?;
     assert_eq!(rt; net.cross(0, 5), Some(17));
     assert_eq!(rt; net.cross(0, 30), Some(47));
     assert_eq!(rt; net.cross(0, 60), Some(70));

@@ -6,7 +6,7 @@ ghost use Rattle.refusal.specs.Refusals.{number, places};
 ghost use Rattle.std.specs.Prelude.{◌≡◌};
 
 /// A line of a text: files and lines count from 1; 0 stands where there is none.
-#[derive(Clone, Copy, PartialEq, Eq, Debug)]
+#[derive(Clone, Copy, PartialEq, Eq, Debug, Default)]
 pub struct Line {
     pub file: u32,
     pub line: usize,
@@ -38,7 +38,7 @@ pub enum Refusal {
 }
 
 /// Where a refusal's fault lies: 0, or no road, where that does not apply. Roads count from 0.
-#[derive(Clone, Copy, PartialEq, Eq, Debug)]
+#[derive(Clone, Copy, PartialEq, Eq, Debug, Default)]
 pub struct Places {
     pub file: u32,
     pub line: usize,
@@ -46,7 +46,7 @@ pub struct Places {
 }
 
 impl Refusal {
-    /// The refusal's number.
+    /// The refusal's number: the rules print it, so each is written out.
     pub fn number(self) -> u32
         ensures number_as_listed { result ≡ number self }
     {
@@ -75,15 +75,10 @@ impl Refusal {
                 road: None,
             },
             Refusal::Table(road) | Refusal::Unsettled(road) => Places {
-                file: 0,
-                line: 0,
                 road,
+                ..Places::default()
             },
-            _ => Places {
-                file: 0,
-                line: 0,
-                road: None,
-            },
+            _ => Places::default(),
         }
     }
 }

@@ -1,8 +1,11 @@
 -- The entry found is the first minute at which the road may be entered.
-use Rattle.std.specs.Prelude.{◌≡◌, ℕ, ◌+◌, ◌-◌, ◌*◌, ◌/◌, ◌%◌, ◌<◌, ◌≤◌, max, true, false, ◌&&◌, ◌⊎◌, List, [], ◌∷◌, length, nat_le, slice_index_or, refl}
+use Rattle.std.specs.Prelude.{◌≡◌, ℕ, ◌+◌, ◌-◌, ◌*◌, ◌/◌, ◌%◌, ◌<◌, ◌≤◌, max, Bool, true, false, cond, ◌&&◌, ◌⊎◌, List, [], ◌∷◌, length, nat_le, Some, slice_index_or, refl}
+use Rattle.std.specs.List.{find}
+use Rattle.std.specs.Option.{option_map_or}
 use Rattle.std.proofs.Common.{sym, ap, subst, ◌∙◌, inl, inr, arith, div-add-mod', mod-lt, not-suc-le-zero, add-mul}
 use Rattle.std.proofs.lemmas.Nat.{mod-mul-add}
-use Rattle.std.proofs.lemmas.Bool.{false≢true, and_parts, and_from, and_left, and_right, or_from, or_left, or_right, ltb-true, leb-true, leb-false, le-leb, lt-leb, cases_lt, cond_both}
+use Rattle.std.proofs.lemmas.Bool.Decides.{nat_tests}
+use Rattle.std.proofs.lemmas.Bool.{false≢true, and_from, and_left, and_right, or_from, or_left, or_right, leb-true, leb-false, le-leb, lt-leb, cases_lt, cond_both}
 use Rattle.timetable.specs.declared.tables.Interval.{Interval}
 use Rattle.timetable.specs.Timetables.{no_interval, inside, Enters, opening, entry, ascending}
 
@@ -14,9 +17,7 @@ pub record Ascends (period from : ℕ) (i : Interval) (rest : List Interval) : T
   pub after : ascending period (i.closes + 1) rest ≡ true
 
 pub ascending_tells : (period from : ℕ) (i : Interval) (rest : List Interval) → ascending period from (i ∷ rest) ≡ true → Ascends period from i rest
-ascending_tells period from i rest e =
-    let a = and_parts _ _ e in let b = and_parts _ _ a.1 in let c = and_parts _ _ b.1 in
-    record { low = leb-true _ _ a.0; span = leb-true _ _ b.0; high = ltb-true _ _ c.0; after = c.1 }
+ascending_tells period from i rest e = record { low = grind (arith, nat_tests); span = grind (arith, nat_tests); high = grind (arith, nat_tests); after = grind (arith, nat_tests) }
 
 -- the first interval opens within the period
 pub first_within : (period from : ℕ) (run : List Interval) → ascending period from run ≡ true → 0 < length run → (slice_index_or run 0 no_interval).opens < period
@@ -33,6 +34,14 @@ shut_before period from (i ∷ rest) k e h =
     let t = ascending_tells period from i rest e in
     let l = t.low in let s = t.span in
     or_from _ _ (and_left _ _ (lt-leb i.opens k (omega arith))) (shut_before period (i.closes + 1) rest k t.after (omega arith))
+
+-- the opening is in the first interval that does not close before k
+pub opening_by_find : (next k : ℕ) (run : List Interval) → opening next run k ≡ option_map_or (λ (i : Interval). max k i.opens) (find (λ (i : Interval). nat_le k i.closes) run) next
+opening_by_find next k [] = refl
+opening_by_find next k (i ∷ rest) =
+    let shut_or_not : (b : Bool) → cond b (max k i.opens) (opening next rest k) ≡ option_map_or (λ (i : Interval). max k i.opens) (cond b (Some i) (find (λ (i : Interval). nat_le k i.closes) rest)) next =
+    elim [ true ↦ refl | false ↦ opening_by_find next k rest ] in
+    shut_or_not (nat_le k i.closes)
 
 -- m is the first minute from k on that lies in an interval
 pub record Opens (period : ℕ) (run : List Interval) (k m : ℕ) : Type 0 where
@@ -170,3 +179,6 @@ enters_once period run x y z a b =
     let l = enters_order period run x x y z a b (omega arith) in
     let r = enters_order period run x x z y b a (omega arith) in
     omega arith
+
+pub entry_soon : (period : ℕ) (run : List Interval) (x : ℕ) → ascending period 0 run ≡ true → 0 < length run → entry period run x < x + period
+entry_soon period run x e h = (entry_entered period run x e h).soon

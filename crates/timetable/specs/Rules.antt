@@ -1,11 +1,15 @@
 -- The test of a road is its rule.
-use Rattle.std.specs.Prelude.{◌≡◌, ℕ, zero, suc, ◌+◌, ◌<◌, ◌≤◌, true, List, [], ◌∷◌, length, get_or, drop, Decides, slice_index_or, refl}
-use Rattle.std.proofs.Common.{suc-le-suc, sym, subst, ◌∙◌, arith, not-suc-le-zero, le_of_suc-le-suc}
+use Rattle.std.specs.Prelude.{◌≡◌, ℕ, zero, suc, ◌+◌, ◌<◌, ◌≤◌, Bool, true, false, ◌&&◌, List, [], ◌∷◌, length, get_or, drop, nat_lt, Decides, slice_index_or, refl}
+use Rattle.std.proofs.Common.{suc-le-suc, sym, subst, ◌∙◌, inl, inr, arith, not-suc-le-zero, le_of_suc-le-suc}
+use Rattle.std.proofs.lemmas.Bool.Decides.{nat_tests}
 use Rattle.std.proofs.lemmas.List.{length-drop, length-take-le, get_or-take, get_or-drop}
-use Rattle.std.proofs.lemmas.Bool.{and_parts, and_from, ltb-true, leb-true, lt-ltb, le-leb}
+use Rattle.std.proofs.lemmas.Bool.{and_parts, and_from, ltb-true, leb-true, lt-ltb, le-leb, and_left, and_right, both_ways, false_from_ne_true, cases_Bool, false≢true}
+use Rattle.std.proofs.lemmas.List.Elements.{All-from_get_or}
+use Rattle.std.proofs.lemmas.List.Sums.{AllPass-from_list_all, list_all-from_AllPass}
+use Rattle.std.specs.List.{IsAllAdjacentAnswer, list_all}
 use Rattle.timetable.specs.declared.tables.Interval.{Interval}
 use Rattle.timetable.specs.declared.tables.TimedRoad.{TimedRoad}
-use Rattle.timetable.specs.Timetables.{no_interval, ascending, interval_of, KeepsRule, run_of, road_right}
+use Rattle.timetable.specs.Timetables.{no_interval, ascending, lies_within, interval_of, KeepsRule, run_of, road_right}
 use Rattle.timetable.specs.Entries.{ascending_tells}
 
 -- what the test of a road tells
@@ -19,19 +23,15 @@ pub record Rule (n : ℕ) (intervals : List Interval) (road : TimedRoad) : Type 
   pub ascends : ascending road.period 0 (run_of intervals road) ≡ true
 
 pub rule_tells : (n : ℕ) (intervals : List Interval) (road : TimedRoad) → road_right n intervals road ≡ true → Rule n intervals road
-rule_tells n intervals road e =
-    let a = and_parts _ _ e in let b = and_parts _ _ a.1 in let c = and_parts _ _ b.1 in
-    let d = and_parts _ _ c.1 in let f = and_parts _ _ d.1 in
-    let p = and_parts _ _ c.0 in let q = and_parts _ _ p.1 in let t = and_parts _ _ q.1 in
-    record {
-      tail = ltb-true _ _ a.0;
-      head = ltb-true _ _ b.0;
-      period = (leb-true _ _ p.0, leb-true _ _ q.0);
-      time = (leb-true _ _ t.0, leb-true _ _ t.1);
-      inside = leb-true _ _ d.0;
-      some = leb-true _ _ f.0;
-      ascends = f.1;
-    }
+rule_tells n intervals road e = record {
+  tail = grind (arith, nat_tests);
+  head = grind (arith, nat_tests);
+  period = (grind (arith, nat_tests), grind (arith, nat_tests));
+  time = (grind (arith, nat_tests), grind (arith, nat_tests));
+  inside = grind (arith, nat_tests);
+  some = grind (arith, nat_tests);
+  ascends = grind (arith, nat_tests);
+}
 
 -- a run inside the table has as many intervals as its road says
 pub run_length : (n : ℕ) (intervals : List Interval) (road : TimedRoad) → Rule n intervals road → length (run_of intervals road) ≡ road.count
@@ -69,6 +69,24 @@ ascending_from period from (v ∷ rest) low each apart =
     let s : suc i + 1 ≡ suc (i + 1) = omega arith in
     subst (λ (j : ℕ). (get_or rest i no_interval).closes < (get_or (v ∷ rest) j no_interval).opens) s (apart (suc i) (omega arith))))))
 
+pub each_within : (period : ℕ) (run : List Interval) → ascending period 0 run ≡ true → list_all (lies_within period) run ≡ true
+each_within period run e =
+    list_all-from_AllPass (lies_within period) run (All-from_get_or (λ v. lies_within period v ≡ true) run no_interval (λ i h.
+    let t = interval_at period 0 run i e h in and_from _ _ (le-leb _ _ t.0) (lt-ltb _ _ t.1)))
+
+-- intervals ascend exactly where each lies within the period and opens after the one before has closed
+pub ascending_answered : (period : ℕ) (run : List Interval) (apart : Bool) → IsAllAdjacentAnswer (λ i j b. b ≡ nat_lt i.closes j.opens) run apart → ascending period 0 run ≡ (list_all (lies_within period) run && apart)
+ascending_answered period run true told =
+    elim (cases_Bool (list_all (lies_within period) run)) [
+      | inl all ↦
+          let each : (i : ℕ) → i < length run → ((get_or run i no_interval).opens ≤ (get_or run i no_interval).closes) × ((get_or run i no_interval).closes < period) =
+          λ i h. let t = and_parts _ _ (AllPass-from_list_all (lies_within period) run all i no_interval h) in (leb-true _ _ t.0, ltb-true _ _ t.1) in
+          ascending_from period 0 run (λ h. omega arith) each (λ i h. ltb-true _ _ (sym (told i no_interval h))) ∙ sym (and_from _ _ all refl)
+      | inr some ↦ false_from_ne_true _ (λ e. both_ways _ some (each_within period run e)) ∙ sym (and_left _ _ some)
+    ]
+ascending_answered period run false told =
+    false_from_ne_true _ (λ e. false≢true (told.2 no_interval ∙ lt-ltb _ _ (apart_at period 0 run told.0 e told.1))) ∙ sym (and_right (list_all (lies_within period) run) false refl)
+
 module _ (n : ℕ) (intervals : List Interval) (road : TimedRoad) where
   -- the intervals of a run are those of its road
   interval_is : (i : ℕ) → i < road.count → slice_index_or (run_of intervals road) i no_interval ≡ interval_of intervals road i
@@ -80,7 +98,7 @@ module _ (n : ℕ) (intervals : List Interval) (road : TimedRoad) where
       let run = run_of intervals road in
       let size = run_length n intervals road rule in
       let each : (i : ℕ) → i < road.count → ((interval_of intervals road i).opens ≤ (interval_of intervals road i).closes) × ((interval_of intervals road i).closes < road.period) =
-      λ i h. subst (λ (v : Interval). (v.opens ≤ v.closes) × (v.closes < road.period)) (interval_is i h) (interval_at road.period 0 run i rule.ascends (omega arith)) in
+      λ i h. rw (← interval_is i h) (interval_at road.period 0 run i rule.ascends (omega arith)) in
       record {
         tail_below = rule.tail;
         head_below = rule.head;
@@ -90,9 +108,7 @@ module _ (n : ℕ) (intervals : List Interval) (road : TimedRoad) where
         some = rule.some;
         spans = λ i h. (each i h).0;
         within = λ i h. (each i h).1;
-        apart = λ i h.
-            subst (λ (v : Interval). v.closes < (interval_of intervals road (i + 1)).opens) (interval_is i (omega arith))
-            (subst (λ (w : Interval). (get_or run i no_interval).closes < w.opens) (interval_is (i + 1) h) (apart_at road.period 0 run i rule.ascends (omega arith)));
+        apart = λ i h. rw (← interval_is i (omega arith), ← interval_is (i + 1) h) (apart_at road.period 0 run i rule.ascends (omega arith));
       }
 
   pub rule_tested : KeepsRule n intervals road → road_right n intervals road ≡ true
@@ -101,13 +117,10 @@ module _ (n : ℕ) (intervals : List Interval) (road : TimedRoad) where
       let i = k.inside in
       let size : length run ≡ road.count = length-take-le road.count (drop road.first intervals) (omega (arith, length-drop road.first intervals)) in
       let ascends = ascending_from road.period 0 run (λ h. omega arith)
-      (λ i h. subst (λ (v : Interval). (v.opens ≤ v.closes) × (v.closes < road.period)) (sym (interval_is i (omega arith))) (k.spans i (omega arith), k.within i (omega arith)))
-      (λ i h.
-      subst (λ (v : Interval). v.closes < (get_or run (i + 1) no_interval).opens) (sym (interval_is i (omega arith)))
-      (subst (λ (w : Interval). (interval_of intervals road i).closes < w.opens) (sym (interval_is (i + 1) (omega arith))) (k.apart i (omega arith)))) in
-      let figures = and_from _ _ (le-leb _ _ k.period.0) (and_from _ _ (le-leb _ _ k.period.1) (and_from _ _ (le-leb _ _ k.time.0) (le-leb _ _ k.time.1))) in
-      and_from _ _ (lt-ltb _ _ k.tail_below) (and_from _ _ (lt-ltb _ _ k.head_below) (and_from _ _ figures
-      (and_from _ _ (le-leb _ _ k.inside) (and_from _ _ (le-leb _ _ k.some) ascends))))
+      (λ i h. rw (interval_is i (omega arith)) (k.spans i (omega arith), k.within i (omega arith)))
+      (λ i h. rw (interval_is i (omega arith), interval_is (i + 1) (omega arith)) (k.apart i (omega arith))) in
+      let t = k.tail_below in let h = k.head_below in let s = k.some in let p = k.period in let m = k.time in
+      grind (arith, nat_tests)
 
   pub rule_decided : Decides (road_right n intervals road) (KeepsRule n intervals road)
   rule_decided = (rule_kept, rule_tested)

@@ -1,49 +1,45 @@
 -- Exactly the timetables that keep their rule are accepted, and they mean a lawful network.
-use Rattle.std.specs.Prelude.{◌≡◌, ℕ, ◌+◌, ◌<◌, false, List, length, get_or, is_some, None, Decides, slice_index_or}
+use Rattle.std.specs.Prelude.{◌≡◌, ℕ, ◌+◌, ◌<◌, true, List, length, get_or, None, Decides, slice_index_or}
 use Rattle.std.proofs.Common.{ap, arith}
 use Rattle.network.specs.Net.{Lawful, Attained}
-use Rattle.network.specs.Judged.{Lowest, lowest, lowest_is, Sized, sizes_right, each_right, none_wrong}
+use Rattle.network.specs.Judged.{Lowest, lowest, lowest_is}
+use Rattle.network.specs.Kinds.{LawfulKind, RightRoads, accepted_right, right_accepted, road_right_at, tables_lawful}
 use Rattle.timetable.specs.declared.tables.Interval.{Interval}
 use Rattle.timetable.specs.declared.tables.TimedRoad.{TimedRoad}
-use Rattle.timetable.specs.Timetables.{no_road, Enters, entry, KeepsRule, run_of, road_right, tables_fault, timetabled}
+use Rattle.timetable.specs.Timetables.{no_road, Enters, entry, KeepsRule, run_of, road_right, timed_kind, tables_fault, timetabled}
 use Rattle.timetable.specs.Entries.{Entered, entry_entered, enters_order, enters_once}
-use Rattle.timetable.specs.Rules.{Rule, rule_tells, run_length, rule_kept, rule_tested, rule_decided}
+use Rattle.timetable.specs.Rules.{Rule, rule_tells, run_length, rule_decided}
 
-module _ (n : ℕ) (roads : List TimedRoad) (intervals : List Interval) (accepted : is_some (tables_fault n roads intervals) ≡ false) where
-  pub rule_at : (r : ℕ) → r < length roads → Rule n intervals (slice_index_or roads r no_road)
-  rule_at r h = rule_tells n intervals (slice_index_or roads r no_road) (each_right n (road_right n intervals) no_road roads accepted r h)
+-- of a road that keeps its rule
+module _ (n : ℕ) (intervals : List Interval) (road : TimedRoad) (kept : road_right n intervals road ≡ true) where
+  rule : Rule n intervals road
+  rule = rule_tells n intervals road kept
 
-  pub intervals_at : (r : ℕ) → r < length roads → 0 < length (run_of intervals (slice_index_or roads r no_road))
-  intervals_at r h =
-      let rule = rule_at r h in let s = rule.some in
-      omega (arith, run_length n intervals (slice_index_or roads r no_road) rule)
+  pub road_some : 0 < length (run_of intervals road)
+  road_some = let s = rule.some in omega (arith, run_length n intervals road rule)
 
-  pub entered_at : (r x : ℕ) → r < length roads → Entered (get_or roads r no_road).period (run_of intervals (slice_index_or roads r no_road)) x (entry (get_or roads r no_road).period (run_of intervals (slice_index_or roads r no_road)) x)
-  entered_at r x h = entry_entered (get_or roads r no_road).period (run_of intervals (slice_index_or roads r no_road)) x (rule_at r h).ascends (intervals_at r h)
+  road_entered : (x : ℕ) → Entered road.period (run_of intervals road) x (entry road.period (run_of intervals road) x)
+  road_entered x = entry_entered road.period (run_of intervals road) x rule.ascends road_some
 
-  pub timetables_lawful : Lawful (timetabled n roads intervals)
-  timetables_lawful =
-      let s = sizes_right n (road_right n intervals) no_road roads accepted in
-      record {
-        some = s.some;
-        few = s.few;
-        paved = s.paved;
-        tails = λ r h. (rule_at r h).tail;
-        heads = λ r h. (rule_at r h).head;
-        takes = λ r h. (rule_at r h).time.0;
-        early = λ r x h. let f = (entered_at r x h).enters.from in omega arith;
-        late = λ r x h.
-            let s = (entered_at r x h).soon in
-            let p = (rule_at r h).period.1 in
-            let t = (rule_at r h).time.1 in
-            omega arith;
-        order = λ r x y h k.
-            let o = enters_order _ _ x y _ _ (entered_at r x h).enters (entered_at r y h).enters k in
-            omega arith;
-      }
+pub timed_roads_lawful : LawfulKind timed_kind
+timed_roads_lawful n intervals road kept =
+    let rule = rule_tells n intervals road kept in
+    let entered = road_entered n intervals road kept in
+    record {
+      tail_below = rule.tail;
+      head_below = rule.head;
+      takes = rule.time.0;
+      early = λ x. let f = (entered x).enters.from in omega arith;
+      late = λ x. let s = (entered x).soon in let p = rule.period.1 in let t = rule.time.1 in omega arith;
+      order = λ x y h. let o = enters_order _ _ x y _ _ (entered x).enters (entered y).enters h in omega arith;
+    }
+
+module _ (n : ℕ) (roads : List TimedRoad) (intervals : List Interval) (accepted : tables_fault n roads intervals ≡ None) where
+  entered_at : (r x : ℕ) → r < length roads → Entered (get_or roads r no_road).period (run_of intervals (slice_index_or roads r no_road)) x (entry (get_or roads r no_road).period (run_of intervals (slice_index_or roads r no_road)) x)
+  entered_at r x h = road_entered n intervals (slice_index_or roads r no_road) (road_right_at timed_kind n roads intervals accepted r h) x
 
   -- whoever is at the road when it opens crosses it in its crossing time
-  pub timetables_attain : (r : ℕ) → r < length roads → Attained (timetabled n roads intervals) r
+  timetables_attain : (r : ℕ) → r < length roads → Attained (timetabled n roads intervals) r
   timetables_attain r h =
       let y = entry (get_or roads r no_road).period (run_of intervals (slice_index_or roads r no_road)) 0 in
       let there = (entered_at r 0 h).enters in
@@ -55,18 +51,8 @@ module _ (n : ℕ) (roads : List TimedRoad) (intervals : List Interval) (accepte
       }
 
 -- tables of a right size whose roads keep their rule
-pub record RightTables (n : ℕ) (roads : List TimedRoad) (intervals : List Interval) : Type 0 where
-  pub size : Sized n (length roads)
-  pub by_rule : (r : ℕ) → r < length roads → KeepsRule n intervals (slice_index_or roads r no_road)
-
-pub tables_accepted : (n : ℕ) (roads : List TimedRoad) (intervals : List Interval) → RightTables n roads intervals → tables_fault n roads intervals ≡ None
-tables_accepted n roads intervals t = none_wrong n (road_right n intervals) no_road roads t.size (λ r h. rule_tested n intervals (slice_index_or roads r no_road) (t.by_rule r h))
-
-pub tables_right : (n : ℕ) (roads : List TimedRoad) (intervals : List Interval) → is_some (tables_fault n roads intervals) ≡ false → RightTables n roads intervals
-tables_right n roads intervals e = record {
-  size = sizes_right n (road_right n intervals) no_road roads e;
-  by_rule = λ r h. rule_kept n intervals (slice_index_or roads r no_road) (each_right n (road_right n intervals) no_road roads e r h);
-}
+abbrev pub RightTables : ℕ → List TimedRoad → List Interval → Type 0
+RightTables = RightRoads timed_kind KeepsRule
 
 -- when a vehicle at the road r at minute x enters it
 abbrev pub EntersRoad : List TimedRoad → List Interval → ℕ → ℕ → ℕ → Type 0
@@ -88,12 +74,12 @@ pub record TimetableLaws : Type 0 where
 pub timetable_laws : TimetableLaws
 timetable_laws = record {
   rule_tested = rule_decided;
-  right_accepted = tables_accepted;
-  accepted_right = λ n roads intervals e. tables_right n roads intervals (ap is_some e);
+  right_accepted = right_accepted timed_kind KeepsRule rule_decided;
+  accepted_right = accepted_right timed_kind KeepsRule rule_decided;
   lowest_named = λ n roads intervals. lowest_is (road_right n intervals) no_road roads;
-  lawful = λ n roads intervals e. timetables_lawful n roads intervals (ap is_some e);
-  opens = λ n roads intervals e r x h. (_, (entered_at n roads intervals (ap is_some e) r x h).enters);
+  lawful = λ n roads intervals. tables_lawful timed_kind n roads intervals timed_roads_lawful;
+  opens = λ n roads intervals e r x h. (_, (entered_at n roads intervals e r x h).enters);
   enters = λ n roads intervals e r x y h entering.
-      ap (λ (e : ℕ). e + (get_or roads r no_road).time) (enters_once _ _ x _ y (entered_at n roads intervals (ap is_some e) r x h).enters entering);
-  attained = λ n roads intervals e. timetables_attain n roads intervals (ap is_some e);
+      ap (λ (e : ℕ). e + (get_or roads r no_road).time) (enters_once _ _ x _ y (entered_at n roads intervals e r x h).enters entering);
+  attained = timetables_attain;
 }

@@ -2,7 +2,7 @@
 use Rattle.std.specs.Prelude.{◌≡◌, ℕ, ◌+◌, ◌-◌, ◌%◌, ◌<◌, ◌≤◌, max, Bool, true, false, cond, ◌&&◌, ◌||◌, List, [], ◌∷◌, length, get_or, take, drop, Option, nat_le, nat_lt, slice_index_or}
 use Rattle.refusal.specs.declared.Refusal.{Refusal}
 use Rattle.network.specs.Net.{Net}
-use Rattle.network.specs.Judged.{lowest, table_fault}
+use Rattle.network.specs.Kinds.{Kind, fault, meant}
 use Rattle.timetable.specs.declared.tables.Interval.{Interval}
 use Rattle.timetable.specs.declared.tables.TimedRoad.{TimedRoad}
 
@@ -57,6 +57,10 @@ ascending period from [] = true
 ascending period from (i ∷ rest) =
     nat_le from i.opens && (nat_le i.opens i.closes && (nat_lt i.closes period && ascending period (i.closes + 1) rest))
 
+-- an interval closes within the period, no earlier than it opens
+abbrev pub lies_within : ℕ → Interval → Bool
+lies_within period i = nat_le i.opens i.closes && nat_lt i.closes period
+
 -- a road's intervals are a run inside the interval table
 abbrev pub run_of : List Interval → TimedRoad → List Interval
 run_of intervals road = take road.count (drop road.first intervals)
@@ -71,17 +75,21 @@ road_right n intervals road =
     nat_lt road.tail n && (nat_lt road.head n && (timed road && (nat_le (road.first + road.count) (length intervals)
     && (nat_le 1 road.count && ascending road.period 0 (run_of intervals road)))))
 
+-- the kind of timetabled roads
+abbrev pub timed_kind : Kind TimedRoad Interval
+timed_kind = record {
+  no_road = no_road;
+  tail = λ road. road.tail;
+  head = λ road. road.head;
+  right = road_right;
+  least = λ intervals road. road.time;
+  cross = λ intervals road x. entry road.period (run_of intervals road) x + road.time;
+}
+
 -- why tables are refused, if they are
 abbrev pub tables_fault : ℕ → List TimedRoad → List Interval → Option Refusal
-tables_fault n roads intervals = table_fault n (length roads) (lowest (road_right n intervals) roads)
+tables_fault = fault timed_kind
 
 -- what tables mean
 abbrev pub timetabled : ℕ → List TimedRoad → List Interval → Net
-timetabled n roads intervals = record {
-  nodes = n;
-  roads = length roads;
-  tail = λ r. (get_or roads r no_road).tail;
-  head = λ r. (get_or roads r no_road).head;
-  least = λ r. (get_or roads r no_road).time;
-  cross = λ r x. entry (get_or roads r no_road).period (run_of intervals (slice_index_or roads r no_road)) x + (get_or roads r no_road).time;
-}
+timetabled = meant timed_kind

@@ -2,6 +2,7 @@
 
 #![tactic(auto)]
 
+mod hours;
 mod judging;
 mod tables;
 mod theorems;

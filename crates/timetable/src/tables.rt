@@ -1,5 +1,5 @@
 /// Minutes of a period at which a road may be entered: from `opens` to `closes`, both included.
-#[derive(Clone, Copy, PartialEq, Eq, Debug)]
+#[derive(Clone, Copy, PartialEq, Eq, Debug, Default)]
 pub struct Interval {
     pub opens: u32,
     pub closes: u32,
@@ -7,7 +7,7 @@ pub struct Interval {
 
 /// A timetabled road: its ends, its period and crossing time, and its intervals as a run inside the
 /// interval table.
-#[derive(Clone, Copy, PartialEq, Eq, Debug)]
+#[derive(Clone, Copy, PartialEq, Eq, Debug, Default)]
 pub struct TimedRoad {
     pub tail: u32,
     pub head: u32,

@@ -34,8 +34,7 @@ fn road(first: u32, count: u32) -> TimedRoad {
 #[test]
 fn enters_when_open(rt: HostRuntime) -> Result<(), Fail> {
     let roads = [road(0, 1), road(0, 2)];
-    Timetabled::check(2, &roads, &INTERVALS)?;
-    let net = Timetabled::new(2, &roads, &INTERVALS);
+    let net = Timetabled::try_new(2, &roads, &INTERVALS)?;
     assert_eq!(rt; net.cross(0, 0), Some(30));
     assert_eq!(rt; net.cross(0, 15), Some(35));
     assert_eq!(rt; net.cross(0, 16), Some(90));

@@ -1,144 +1,66 @@
 //! Networks whose roads open by a timetable.
 
-ghost use Rattle.refusal.specs.Refusals.{refusal};
-ghost use Rattle.std.specs.Prelude.{◌≡◌, ◌+◌, ◌^◌, ◌<◌, ◌≤◌, true, false, length, get_or, is_some, None, slice_index_or};
-ghost use Rattle.timetable.specs.Timed.{timetables_lawful};
-ghost use Rattle.timetable.specs.Timetables.{ascending, entry, no_interval, no_road, opening, run_of, tables_fault, timetabled};
+ghost use Rattle.network.specs.Kinds.{Kept};
+ghost use Rattle.std.specs.Prelude.{◌≡◌};
+ghost use Rattle.timetable.specs.Timed.{timed_roads_lawful};
+ghost use Rattle.timetable.specs.Timetables.{run_of, timed_kind};
 
-use super::judging::keeps_rule;
+use super::hours::Hours;
+use super::judging::{is_ascending, is_timed};
 use super::tables::{Interval, TimedRoad};
-use network::{LAST_MINUTE, MOST_NODES, MOST_ROADS, Network};
-use refusal::Refusal;
+use network::{TableRoad, Tables};
 
-/// A network over lent tables that keep their rule.
-#[derive(Drop)]
-pub struct Timetabled<'r, 'i> {
-    nodes: u32,
-    roads: &'r [TimedRoad],
-    intervals: &'i [Interval],
-    ghost accepted: { is_some (tables_fault nodes roads.now intervals.now) ≡ false },
-}
+/// A network over lent tables of timetabled roads and of their intervals.
+pub type Timetabled<'r, 'i> = Tables<'r, 'i, TimedRoad>;
 
-/// The first minute from `k` on that lies in an interval of this period, else of the next.
-fn opening_from(run: &[Interval], period: u32, k: u32) -> u32
-    requires some { 0 < length run.now }
-    requires fits { period + (get_or run.now 0 no_interval).opens < 2 ^ 32 }
-    ensures first_opening { result ≡ opening (period + (get_or run.now 0 no_interval).opens) run.now k }
-{
-    for i in run {
-        if k <= i.closes {
-            return k.max(i.opens);
-        }
-    }
-    period + run[0].opens
-}
-
-/// When a vehicle that is there at minute `x` enters.
-fn entry_minute(run: &[Interval], period: u32, x: u32) -> u32
-    requires some { 0 < length run.now }
-    requires ascends { ascending period 0 run.now ≡ true }
-    requires short { period ≤ 5000 }
-    requires early { x ≤ 20461440 }
-    ensures enters_first { result ≡ entry period run.now x }
-    ensures soon { result < x + period }
-{
-    let k = x % period;
-    x - k + opening_from(run, period, k)
-}
-
-impl<'r, 'i> Timetabled<'r, 'i> {
-    /// Whether tables make a network; if not, why: the number of nodes or roads, else the lowest road that
-    /// breaks its rule.
-    pub fn check(nodes: u32, roads: &[TimedRoad], intervals: &[Interval]) -> Result<(), Refusal>
-        ensures refused_at_lowest_road { refusal result ≡ tables_fault nodes roads.now intervals.now }
+impl TimedRoad {
+    /// When a road that keeps its rule may be entered.
+    #[tactic(auto, using(crate::specs::Timed::road_some))]
+    fn hours(self, intervals: &[Interval]) -> Hours
+        requires kept { Kept timed_kind intervals.now self }
+        ensures its_period { result.period ≡ self.period }
+        ensures its_intervals { result.intervals.now ≡ run_of intervals.now self }
     {
-        if nodes < 1 || nodes > MOST_NODES || roads.len() > MOST_ROADS as usize {
-            return Err(Refusal::Table(None));
+        let first = self.first as usize;
+        Hours {
+            period: self.period,
+            intervals: &intervals[first..first + self.count as usize],
         }
-        for (r, road) in roads.iter().enumerate() {
-            if !keeps_rule(nodes, intervals, *road) {
-                return Err(Refusal::Table(Some(r as u32)));
-            }
-        }
-        Ok(())
-    }
-
-    /// The network of tables that `check` accepts.
-    pub fn new(nodes: u32, roads: &'r [TimedRoad], intervals: &'i [Interval]) -> Timetabled<'r, 'i>
-        requires accepted { tables_fault nodes roads.now intervals.now ≡ None }
-        ensures same_nodes { result.nodes ≡ nodes }
-        ensures same_roads { result.roads.now ≡ roads.now }
-        ensures same_intervals { result.intervals.now ≡ intervals.now }
-    {
-        Timetabled {
-            nodes,
-            roads,
-            intervals,
-        }
-    }
-
-    /// The intervals of the road `r`.
-    fn run(&self, r: u32) -> &[Interval]
-        requires known { r < length self.now.roads.now }
-        ensures some { 0 < length result.now }
-        ensures ascends { ascending (get_or self.now.roads.now r no_road).period 0 result.now ≡ true }
-        ensures its_intervals { result.now ≡ run_of self.now.intervals.now (slice_index_or self.now.roads.now r no_road) }
-    {
-        let road = self.roads[r as usize];
-        let first = road.first as usize;
-        &self.intervals[first..first + road.count as usize]
     }
 }
 
-impl Network for Timetabled<'_, '_> {
-    ghost means = { λ s. timetabled s.nodes s.roads.now s.intervals.now };
+impl TableRoad for TimedRoad {
+    type Entry = Interval;
 
-    ghost some = { λ s. (timetables_lawful s.nodes s.roads.now s.intervals.now s.accepted).some };
+    ghost kind = { timed_kind };
 
-    ghost few = { λ s. (timetables_lawful s.nodes s.roads.now s.intervals.now s.accepted).few };
-
-    ghost paved = { λ s. (timetables_lawful s.nodes s.roads.now s.intervals.now s.accepted).paved };
-
-    ghost tails = { λ s. (timetables_lawful s.nodes s.roads.now s.intervals.now s.accepted).tails };
-
-    ghost heads = { λ s. (timetables_lawful s.nodes s.roads.now s.intervals.now s.accepted).heads };
-
-    ghost takes = { λ s. (timetables_lawful s.nodes s.roads.now s.intervals.now s.accepted).takes };
-
-    ghost early = { λ s. (timetables_lawful s.nodes s.roads.now s.intervals.now s.accepted).early };
-
-    ghost late = { λ s. (timetables_lawful s.nodes s.roads.now s.intervals.now s.accepted).late };
-
-    ghost order = { λ s. (timetables_lawful s.nodes s.roads.now s.intervals.now s.accepted).order };
-
-    fn nodes(&self) -> u32 {
-        self.nodes
+    fn tail(&self) -> u32 {
+        self.tail
     }
 
-    fn roads(&self) -> u32 {
-        self.roads.len() as u32
+    fn head(&self) -> u32 {
+        self.head
     }
 
-    fn tail(&self, r: u32) -> Option<u32> {
-        let road = self.roads.get(r as usize)?;
-        Some(road.tail)
+    fn keeps_rule(&self, nodes: u32, intervals: &[Interval]) -> bool {
+        let first = self.first as usize;
+        let Some(run) = intervals.get(first..first + self.count as usize) else {
+            return false;
+        };
+        is_timed(*self)
+            && self.tail < nodes
+            && self.head < nodes
+            && self.count >= 1
+            && is_ascending(run, self.period)
     }
 
-    fn head(&self, r: u32) -> Option<u32> {
-        let road = self.roads.get(r as usize)?;
-        Some(road.head)
+    fn least(&self, _intervals: &[Interval]) -> u32 {
+        self.time
     }
 
-    fn least(&self, r: u32) -> Option<u32> {
-        let road = self.roads.get(r as usize)?;
-        Some(road.time)
+    fn cross(&self, intervals: &[Interval], x: u32) -> u32 {
+        self.hours(intervals).entry(x) + self.time
     }
 
-    fn cross(&self, r: u32, x: u32) -> Option<u32> {
-        if r as usize >= self.roads.len() || x > LAST_MINUTE {
-            return None;
-        }
-        let road = self.roads[r as usize];
-        Some(entry_minute(self.run(r), road.period, x) + road.time)
-    }
+    ghost lawful = { timed_roads_lawful };
 }

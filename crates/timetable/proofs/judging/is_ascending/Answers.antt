@@ -1,19 +1,12 @@
 use Rattle.std.proofs.Common.{arith}
 use Rattle.std.proofs.lemmas.Bool.Decides.{nat_tests}
-use Rattle.timetable.proofs.Walks.{ascending_more, ascending_all}
+use Rattle.timetable.specs.Rules.{ascending_answered, each_within}
 use Rattle.timetable.proofs.judging.is_ascending.Goals as goal
 
-pub returns-then-i-from : goal.returns-then-i-from
-returns-then-i-from c =
-    let e = ascending_more c.args.run.now c.loop-i.i-index c.args.period c.loop-i.from c.loop-i-test.true in
-    record { as_ruled = grind (arith, nat_tests) }
+pub returns-then-are_within : goal.returns-then-are_within
+returns-then-are_within c =
+    let e = ascending_answered c.args.period c.args.run.now c.are_apart.result c.are_apart.ensures.as_ruled in
+    record { as_ruled = grind (arith, nat_tests, e) }
 
-pub loop-i-preserved : goal.loop-i-preserved
-loop-i-preserved c =
-    let e = ascending_more c.args.run.now c.loop-i.i-index c.args.period c.loop-i.from c.loop-i-test.true in
-    grind (arith, nat_tests)
-
-pub returns : goal.returns
-returns c =
-    let e = ascending_all c.args.run.now c.loop-i.i-index c.args.period c.loop-i.from c.loop-i-test.false in
-    record { as_ruled = cc }
+pub returns-else-are_within : goal.returns-else-are_within
+returns-else-are_within c = record { as_ruled = grind (arith, nat_tests, each_within c.args.period c.args.run.now) }
