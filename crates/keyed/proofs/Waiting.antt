@@ -1,119 +1,84 @@
 -- What a put and a take do to a list by keys.
-use Rattle.std.proofs.Common.{◌≡◌, ℕ, ◌+◌, ◌<◌, ◌≤◌, Bool, true, false, cond, List, [], ◌∷◌, length, get_or, set, replicate, sym, refl, ap, ◌∙◌, subst, arith}
+use Rattle.std.proofs.Common.{◌≡◌, ℕ, ◌+◌, ◌<◌, ◌≤◌, true, false, List, [], ◌∷◌, length, sym, refl, ap, ◌∙◌, arith}
+use mathlib.Core.HLevel.{is_prop→PathP}
+use Rattle.std.specs.Coded.{le_prop, Π_prop}
+use Rattle.std.proofs.Math.Nat.{ℕ_set}
+use Rattle.std.specs.Prelude.{Result, Ok, Err, MatchResult}
 use Rattle.std.specs.List.Sorted.{IsPermutation}
-use Rattle.std.proofs.lemmas.Bool.{lt-ltb, le-ltb, and_from, and_right, both_ways}
+use Rattle.std.proofs.lemmas.Bool.{lt-ltb, both_ways}
 use Rattle.std.proofs.lemmas.List.{nil_from_length}
-use Rattle.std.proofs.lemmas.List.Sorted.{length_permutation, IsPermutation-refl}
+use Rattle.std.proofs.lemmas.List.Sorted.{length_permutation}
+use Rattle.worklist.specs.declared.nodes.NodeSet.{NodeSet}
 use Rattle.worklist.specs.Work.{Idle}
-use Rattle.worklist.specs.Lines.{marked, Marks}
+use Rattle.worklist.specs.NodeSets.{bound_of, has, size, IsEmpty, SetsMark, EachOnce}
+use Rattle.worklist.specs.Lines.{times_cons_same, times_cons_other}
 use Rattle.worklist.proofs.Marking as marking
-use Rattle.queue.specs.Queues.{Sound, Gains, Loses, room}
-use Rattle.queue.proofs.Held.{length_held}
+use Rattle.queue.specs.Bags.{Bag, Gains, Refuses}
 use Rattle.keyed.specs.declared.node.KeyedNode.{KeyedNode}
 use Rattle.keyed.specs.declared.list.Keyed.{Keyed}
-use Rattle.keyed.specs.Order.{comes_before, with_key, times, among}
-use Rattle.keyed.specs.Lists.{limit, entries, waits, Ready, Puts, Pulls, keyed_work, times_same, times_other, times_shuffled}
+use Rattle.keyed.specs.Order.{with_key, nodes_of, times, among}
+use Rattle.keyed.specs.Lists.{entries, waits, keyed_work, times_shuffled}
 
--- nothing waits
-pub blank : (l : Keyed) → Sound comes_before l.queue → 1024 ≤ room l.queue → 1 ≤ limit l → limit l ≤ 1024 → entries l ≡ [] → l.marks ≡ replicate 1024 false → Ready l
-blank l sound space some most none off = record {
-  sound = sound;
-  space = space;
-  some = some;
-  most = most;
-  tally = ap marked off ∙ sym (ap length none);
-  marks = record {
-    long = ap length off;
-    once = λ v. ap (times v) none ∙ subst (λ (ms : List Bool). ◌≡◌ {A = ℕ} 0 (cond (get_or ms v false) 1 0)) (sym off) ((marking.no_marks (limit l)).once v);
-    below = λ v on. (marking.no_marks (limit l)).below v (ap (λ (ms : List Bool). get_or ms v false) (sym off) ∙ on);
-  };
+-- two lists of the same nodes and the same queue are one
+pub same_list : (l m : Keyed) → m.nodes ≡ l.nodes → m.queue ≡ l.queue → m ≡ l
+same_list l m p q = λ i. record {
+  nodes = p i;
+  queue = q i;
+  space = is_prop→PathP (λ j. 1024 ≤ (q j).room) (λ j. le_prop) m.space l.space i;
+  tally = is_prop→PathP (λ j. size (p j) ≡ length (q j).entries) (λ j. ℕ_set _ _) m.tally l.tally i;
+  once = is_prop→PathP (λ j. EachOnce (p j) (λ v. times v (q j).entries)) (λ j. Π_prop (λ v. ℕ_set _ _)) m.once l.once i;
 }
 
--- x and the bag es make up what waits
-module _ (l : Keyed) (r : Ready l) (x : KeyedNode) (es : List KeyedNode) (bag : IsPermutation (entries l) (x ∷ es)) where
-  own : times x.node (entries l) ≡ 1 + times x.node es
-  own = sym (times_shuffled x.node _ _ bag) ∙ times_same x.key x.node es
+-- nothing waits
+pub blank_tally : (t : NodeSet) (es : List KeyedNode) → IsEmpty t → es ≡ [] → size t ≡ length es
+blank_tally t es off none = marking.size_none t off ∙ sym (ap length none)
 
-  others : (y : ℕ) → (y ≡ x.node → ⊥) → times y (entries l) ≡ times y es
-  others y ne = sym (times_shuffled y _ _ bag) ∙ times_other x.key x.node y es ne
+pub blank_once : (t : NodeSet) (es : List KeyedNode) → IsEmpty t → es ≡ [] → EachOnce t (λ v. times v es)
+blank_once t es off none = λ v. ap (times v) none ∙ marking.nothing_once t off v
 
-  below : x.node < limit l
-  below = marking.take_below (limit l) l.marks _ r.marks x.node (λ y. times y es) own others r.most
+-- v is put with its key, which did not wait; t are the nodes that wait then
+module _ (l : Keyed) (v key : ℕ) (t : NodeSet) (off : has l.nodes v ≡ false) (low : v < bound_of l.nodes) (puts : SetsMark l.nodes v true t) where
+  abbrev pub x : KeyedNode
+  x = with_key key v
 
-  pub take_within : x.node < 1024
-  take_within = omega (arith, below, r.most)
+  pub not_full : length (entries l) ≡ l.queue.room → ⊥
+  not_full full = omega (arith, marking.put_room l.nodes t v off low puts, l.tally, l.space)
 
-  waited : waits l x.node ≡ true
-  waited = and_from _ _ (lt-ltb x.node (limit l) below) (lt-ltb 0 (times x.node (entries l)) (omega (arith, own)))
+  -- the push is answered, as there was room
+  pub gains : (q : Bag KeyedNode) (r : Result (Unit {0}) KeyedNode) → MatchResult r (λ _. Gains l.queue x q) (λ y. Refuses l.queue x y q) → Gains l.queue x q
+  gains q (Ok _) told = told
+  gains q (Err y) told = absurd (not_full told.full)
 
-  gone : times x.node es ≡ 0
-  gone = marking.take_none (limit l) l.marks _ r.marks x.node (λ y. times y es) own others r.most
+  module _ (q : Bag KeyedNode) (gained : Gains l.queue x q) where
+    pub put_tally : size t ≡ length q.entries
+    put_tally = omega (arith, marking.put_size l.nodes t v off low puts, l.tally, length_permutation _ _ gained.bag)
 
-  told_after : Marks (limit l) (set l.marks x.node false) (λ y. times y es)
-  told_after = marking.take_marks (limit l) l.marks _ r.marks x.node _ own others r.most
+    pub put_once : EachOnce t (λ y. times y q.entries)
+    put_once = marking.put_once l.nodes t v off low puts (λ y. times y (entries l)) (λ y. times y q.entries) l.once
+        (times_shuffled v _ _ gained.bag ∙ times_cons_same (nodes_of (entries l)) v ∙ omega arith)
+        (λ y ne. times_shuffled y _ _ gained.bag ∙ times_cons_other (nodes_of (entries l)) v y ne)
 
-  tally_after : marked (set l.marks x.node false) ≡ length es
-  tally_after = omega (arith, marking.take_tally (limit l) l.marks _ r.marks x.node (λ y. times y es) own others r.most, r.tally, length_permutation _ _ bag)
+-- x is taken, and q is left
+module _ (l : Keyed) (x : KeyedNode) (q : Bag KeyedNode) (bag : IsPermutation (entries l) (x ∷ q.entries)) where
+  own : times x.node (entries l) ≡ 1 + times x.node q.entries
+  own = sym (times_shuffled x.node _ _ bag) ∙ times_cons_same (nodes_of q.entries) x.node
+
+  pub take_below : x.node < bound_of l.nodes
+  take_below = marking.take_below l.nodes x.node (λ y. times y (entries l)) (λ y. times y q.entries) l.once own
+
+  pub take_tally : (t : NodeSet) → SetsMark l.nodes x.node false t → size t ≡ length q.entries
+  take_tally t takes = omega (arith, marking.take_size l.nodes t x.node (λ y. times y (entries l)) (λ y. times y q.entries) l.once own takes, l.tally, length_permutation _ _ bag)
+
+  pub take_once : (t : NodeSet) → SetsMark l.nodes x.node false t → EachOnce t (λ y. times y q.entries)
+  take_once t takes = marking.take_once l.nodes t x.node _ _ l.once own takes
+      (λ y ne. sym (times_cons_other (nodes_of q.entries) x.node y ne) ∙ times_shuffled y _ _ bag)
 
 pub none_waits : (l : Keyed) → length (entries l) ≡ 0 → Idle keyed_work l
-none_waits l none v = and_right _ _ (ap (among v) (nil_from_length (entries l) none))
+none_waits l none v = ap (among v) (nil_from_length (entries l) none)
 
-pub some_waits : (l : Keyed) → Ready l → (length (entries l) ≡ 0 → ⊥) → Idle keyed_work l → ⊥
-some_waits l r some idle = go (entries l) refl
+pub none_counts : (l : Keyed) → Idle keyed_work l → length (entries l) ≡ 0
+none_counts l idle = go (entries l) refl
   where
-    go : (es : List KeyedNode) → entries l ≡ es → ⊥
-    go [] e = some (ap length e)
-    go (x ∷ es) e = both_ways (waits l x.node) (idle x.node) (waited l r x es (subst (IsPermutation (entries l)) e (IsPermutation-refl (entries l))))
-
-module _ (l : Keyed) (r : Ready l) (v : ℕ) (low : v < limit l) (off : get_or l.marks v false ≡ false) where
-  -- there is room for one more
-  pub not_full : l.queue.len ≡ room l.queue → ⊥
-  not_full full = omega (arith, marking.put_room (limit l) l.marks _ r.marks v low r.most off, r.tally, length_held comes_before l.queue r.sound, r.space)
-
-  absent : waits l v ≡ false
-  absent = and_right _ _ (le-ltb 0 (times v (entries l)) (omega (arith, marking.put_none (limit l) l.marks _ r.marks v low r.most off)))
-
-  -- the entry e is v with its key
-  module _ (key : ℕ) (e : KeyedNode) (m : Keyed) (own_key : e.key ≡ key) (own_node : e.node ≡ v) (sound : Sound comes_before m.queue) (same : room m.queue ≡ room l.queue) (gains : Gains l.queue e m.queue) (bound : limit m ≡ limit l) (marks : m.marks ≡ set l.marks v true) where
-    more : IsPermutation (with_key key v ∷ entries l) (entries m)
-    more = subst (λ (x : KeyedNode). IsPermutation (x ∷ entries l) (entries m)) (λ i. with_key (own_key i) (own_node i)) gains.bag
-
-    pub puts : Puts l v key m
-    puts = record { low = low; bound = bound; bag = subst (λ (b : Bool). IsPermutation (cond b (entries l) (with_key key v ∷ entries l)) (entries m)) (sym absent) more }
-
-    told : Marks (limit l) (set l.marks v true) (λ x. times x (entries m))
-    told = marking.put_marks (limit l) l.marks _ r.marks v low r.most off _
-        (times_shuffled v _ _ more ∙ times_same key v (entries l) ∙ omega arith)
-        (λ x ne. times_shuffled x _ _ more ∙ times_other key v x (entries l) ne)
-
-    pub put_ready : Ready m
-    put_ready = record {
-      sound = sound;
-      space = omega (arith, same, r.space);
-      some = omega (arith, bound, r.some);
-      most = omega (arith, bound, r.most);
-      tally = omega (arith, ap marked marks, marking.put_tally (limit l) l.marks _ r.marks v low r.most off, r.tally, length_permutation _ _ more);
-      marks = subst (λ (ms : List Bool). Marks (limit m) ms (λ x. times x (entries m))) (sym marks) (subst (λ (n : ℕ). Marks n (set l.marks v true) (λ x. times x (entries m))) (sym bound) told);
-    }
-
--- the node v of the entry x is taken
-module _ (l : Keyed) (r : Ready l) (x : KeyedNode) (v : ℕ) (m : Keyed) (own_node : x.node ≡ v) (sound : Sound comes_before m.queue) (same : room m.queue ≡ room l.queue) (loses : Loses comes_before l.queue x m.queue) (bound : limit m ≡ limit l) (marks : m.marks ≡ set l.marks x.node false) where
-  pub pulls : Pulls l v m
-  pulls = subst (λ (y : ℕ). Pulls l y m) own_node (record {
-    key = x.key;
-    bound = bound;
-    first = loses.least;
-    bag = loses.bag;
-    waited = waited l r x (entries m) loses.bag;
-    gone = and_right _ _ (le-ltb 0 (times x.node (entries m)) (omega (arith, gone l r x (entries m) loses.bag)));
-  })
-
-  pub take_ready : Ready m
-  take_ready = record {
-    sound = sound;
-    space = omega (arith, same, r.space);
-    some = omega (arith, bound, r.some);
-    most = omega (arith, bound, r.most);
-    tally = ap marked marks ∙ tally_after l r x (entries m) loses.bag;
-    marks = subst (λ (ms : List Bool). Marks (limit m) ms (λ y. times y (entries m))) (sym marks) (subst (λ (n : ℕ). Marks n (set l.marks x.node false) (λ y. times y (entries m))) (sym bound) (told_after l r x (entries m) loses.bag));
-  }
+    go : (es : List KeyedNode) → entries l ≡ es → length (entries l) ≡ 0
+    go [] e = ap length e
+    go (x ∷ es) e = absurd (both_ways (waits l x.node) (idle x.node) (lt-ltb 0 (times x.node (entries l)) (omega (arith, ap (times x.node) e, times_cons_same (nodes_of es) x.node))))

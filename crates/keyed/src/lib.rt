@@ -2,7 +2,6 @@
 
 #![tactic(auto)]
 
-mod by_key;
 mod list;
 mod node;
 

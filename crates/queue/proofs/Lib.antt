@@ -1,3 +1,3 @@
-pub mod Heaps
-pub mod Firsts
-pub mod Held
+mod Comparing
+mod Firsts
+mod Heaps

@@ -1,3 +1,2 @@
 pub mod Orders
-pub mod Heap
-pub mod Queues
+pub mod Bags

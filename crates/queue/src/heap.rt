@@ -1,78 +1,95 @@
-ghost use Rattle.std.specs.Prelude.{◌≡◌, ℕ, ◌+◌, ◌<◌, ◌≤◌, [], length, MatchOption, MatchResult, nat_lt};
+ghost use Rattle.std.specs.Prelude.{◌≡◌, ◌==◌, [], length, MatchOption, MatchResult};
 ghost use Rattle.queue.specs.Orders.{First};
-ghost use Rattle.queue.specs.Queues.{Sound, Gains, Refuses, Loses, Lacks, held, room};
-ghost use Rattle.std.proofs.Common.{rules};
+ghost use Rattle.queue.specs.Bags.{Gains, Refuses, Loses, Lacks};
 
 use crate::Entry;
 use crate::sift::{sift_down, sift_up};
+use std::marker::Model;
 
 /// A queue of entries in lent slots, the first by their order at the top of a heap.
-#[derive(Drop)]
-pub struct Queue<'a, T> {
-    pub(crate) slots: &'a mut [T],
-    pub(crate) len: usize,
+// A slice with a length beside it, and no `BinaryHeap`: the memory is lent, and nothing is allocated here.
+#[derive(Debug, Drop)]
+pub struct Queue<'a, T: Entry> {
+    slots: &'a mut [T],
+    len: usize,
+}
+
+impl<'a, T: Entry> Model for Queue<'a, T> {
+    ghost use Rattle.std.specs.Prelude.{take, drop, length, ◌≤◌};
+    ghost use Rattle.std.specs.BinaryHeap.{IsHeap};
+    ghost use Rattle.std.specs.Ordering.{flip_args};
+    ghost use Rattle.queue.specs.Bags.{Bag};
+
+    ghost Value = { Bag T };
+
+    ghost view = { λ q. record { entries = take q.len q.slots.now; room = length q.slots.now; spare = drop q.len q.slots.now } };
+
+    ghost invariant = { λ q. (q.len ≤ length q.slots.now) × IsHeap (flip_args T.cmp) (take q.len q.slots.now) };
 }
 
 impl<'a, T: Entry> Queue<'a, T> {
     /// An empty queue, whatever the slots hold.
+    #[tactic(auto, using(crate::proofs::Heaps::nothing_held))]
     pub fn new(slots: &'a mut [T]) -> Queue<'a, T>
-        ensures sound { Sound T.Entry.before result }
-        ensures empty { held result ≡ [] }
-        ensures room { room result ≡ length slots.old }
+        ensures empty { result.entries ≡ [] }
+        ensures room { result.room ≡ length slots.old }
     {
         Queue { slots, len: 0 }
     }
 
+    /// How many entries there are.
+    pub fn len(&self) -> usize
+        ensures count { result ≡ length self.now.entries }
+    {
+        self.len
+    }
+
+    /// Whether there is no entry.
+    pub fn is_empty(&self) -> bool
+        ensures no_entry { result ≡ (length self.now.entries == 0) }
+    {
+        self.len == 0
+    }
+
     /// The entry that comes first, which stays.
     pub fn peek(&self) -> Option<T>
-        requires { Sound T.Entry.before self.now }
-        ensures first_or_none { MatchOption result (held self.now ≡ []) (λ x. First T.Entry.before x (held self.now)) }
+        ensures first_or_none { MatchOption result (self.now.entries ≡ []) (λ x. First T.cmp x self.now.entries) }
     {
-        if self.len == 0 {
-            return None;
-        }
-        Some(self.slots[0])
+        self.slots[..self.len].first().copied()
     }
 
     /// Adds an entry; where every slot is taken, hands it back.
     pub fn push(&mut self, entry: T) -> Result<(), T>
-        requires { Sound T.Entry.before self.old }
-        ensures sound { Sound T.Entry.before self.new }
-        ensures room { room self.new ≡ room self.old }
+        ensures room { self.new.room ≡ self.old.room }
         ensures gains_or_refuses { MatchResult result (λ _. Gains self.old entry self.new) (λ x. Refuses self.old entry x self.new) }
     {
-        let at = self.len;
-        if at >= self.slots.len() {
+        if self.len == self.slots.len() {
             return Err(entry);
         }
-        self.slots[at] = entry;
-        sift_up(self.slots, at);
-        self.len = at + 1;
+        self.slots[self.len] = entry;
+        self.len += 1;
+        sift_up(&mut self.slots[..self.len]);
         Ok(())
     }
 
     /// Takes out the entry that comes first.
     pub fn pop(&mut self) -> Option<T>
-        requires { Sound T.Entry.before self.old }
-        ensures sound { Sound T.Entry.before self.new }
-        ensures room { room self.new ≡ room self.old }
-        ensures loses_or_lacks { MatchOption result (Lacks self.old self.new) (λ x. Loses T.Entry.before self.old x self.new) }
+        ensures room { self.new.room ≡ self.old.room }
+        ensures loses_or_lacks { MatchOption result (Lacks self.old self.new) (λ x. Loses T.cmp self.old x self.new) }
     {
-        let Some(last) = self.len.checked_sub(1) else {
-            return None;
-        };
-        let top = self.slots[0];
-        self.slots.swap(0, last);
-        sift_down(self.slots, last);
+        let last = self.len.checked_sub(1)?;
+        let first = self.slots[0];
+        self.slots[0] = self.slots[last];
         self.len = last;
-        Some(top)
+        sift_down(&mut self.slots[..self.len]);
+        Some(first)
     }
 
     /// Takes out every entry.
+    #[tactic(auto, using(crate::proofs::Heaps::nothing_held))]
     pub fn clear(&mut self)
-        ensures sound { Sound T.Entry.before self.new }
-        ensures room { room self.new ≡ room self.old }
-        ensures empty { held self.new ≡ [] }
+        ensures room { self.new.room ≡ self.old.room }
+        ensures empty { self.new.entries ≡ [] }
     {
         self.len = 0;
     }
@@ -86,15 +103,9 @@ mod tests {
     struct Height(u32);
 
     impl Entry for Height {
-        ghost before = { λ a b. nat_lt a.0 b.0 };
-
-        ghost ranks = { Prim.search rules };
+        ghost use Rattle.std.proofs.Common.{rules};
 
         ghost same = { Prim.search rules };
-
-        fn comes_before(&self, other: &Height) -> bool {
-            self < other
-        }
     }
 
     #[test]

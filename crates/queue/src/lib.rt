@@ -2,7 +2,6 @@
 
 #![tactic(auto)]
 
-mod count;
 mod entry;
 mod heap;
 mod sift;

@@ -1,62 +1,53 @@
-ghost use Rattle.std.specs.Prelude.{◌≡◌, ℕ, ◌+◌, ◌*◌, ◌<◌, ◌≤◌, length, take, slice_index_or};
+ghost use Rattle.std.specs.Prelude.{◌≡◌, ℕ, ◌+◌, ◌-◌, ◌*◌, ◌<◌, ◌≤◌, length};
+ghost use Rattle.std.specs.BinaryHeap.Sift.{IsGreaterChild, SiftsDown, SiftsUp};
 ghost use Rattle.std.specs.List.Sorted.{IsPermutation};
-ghost use Rattle.queue.specs.Heap.{Ordered, Loose, Child};
+ghost use Rattle.std.specs.Ordering.{flip_args};
 
-use crate::Entry;
+// Loops, since no iterator walks a path in a tree.
 
-/// Whether the entry at `i` comes before the one at `j`.
-fn before_at<T: Entry>(s: &[T], i: usize, j: usize) -> bool
-    requires { (i < length s.now) × (j < length s.now) }
-    ensures by_the_order { (d : T) → result ≡ T.Entry.before (slice_index_or s.now i d) (slice_index_or s.now j d) }
+/// Moves the last entry up, until it does not come before its parent.
+pub(crate) fn sift_up<T: Ord>(heap: &mut [T])
+    requires { 0 < length heap.old }
+    ensures ordered { SiftsUp (flip_args T.cmp) heap.old (length heap.old - 1) heap.new }
+    ensures bag { IsPermutation heap.old heap.new }
 {
-    s[i].comes_before(&s[j])
-}
-
-/// Moves the entry at `at` up, until none of the first `at + 1` comes before its parent.
-pub(crate) fn sift_up<T: Entry>(s: &mut [T], at: usize)
-    requires within { at < length s.old }
-    requires ordered { Ordered T.Entry.before s.old at }
-    ensures ordered { Ordered T.Entry.before s.new (at + 1) }
-    ensures bag { IsPermutation (take (at + 1) s.old) (take (at + 1) s.new) }
-{
-    let mut i = at;
-    while 0 < i {
-        let parent = (i - 1) / 2;
-        if !before_at(s, i, parent) {
-            return;
-        }
-        s.swap(i, parent);
-        i = parent;
+    let mut at = heap.len() - 1;
+    while 0 < at && heap[at] < heap[(at - 1) / 2] {
+        heap.swap((at - 1) / 2, at);
+        at = (at - 1) / 2;
     }
 }
 
-/// The child of `j` that comes first among the first `n`.
-fn first_child<T: Entry>(s: &[T], j: usize, n: usize) -> usize
-    requires { (j * 2 + 1 < n) × (n ≤ length s.now) }
-    ensures child { Child T.Entry.before s.now j n result }
+/// The child of the entry at `at` that comes first.
+fn first_child<T: Ord>(heap: &[T], at: usize) -> usize
+    requires { at * 2 + 1 < length heap.now }
+    ensures child { (at * 2 + 1 ≤ result) × (result ≤ at * 2 + 2) × (result < length heap.now) }
+    ensures first { IsGreaterChild (flip_args T.cmp) heap.now at result (length heap.now) }
 {
-    let left = j * 2 + 1;
-    if left + 1 < n && before_at(s, left + 1, left) {
-        left + 1
-    } else {
+    let left = at * 2 + 1;
+    let right = left + 1;
+    if right == heap.len() {
+        return left;
+    }
+    if heap[left] < heap[right] {
         left
+    } else {
+        right
     }
 }
 
-/// Moves the top down among the first `n`, until none of them comes before its parent.
-pub(crate) fn sift_down<T: Entry>(s: &mut [T], n: usize)
-    requires within { n ≤ length s.old }
-    requires loose { Loose T.Entry.before s.old n }
-    ensures ordered { Ordered T.Entry.before s.new n }
-    ensures bag { IsPermutation (take n s.old) (take n s.new) }
+/// Moves the first entry down, until no child of it comes before it.
+pub(crate) fn sift_down<T: Ord>(heap: &mut [T])
+    ensures ordered { SiftsDown (flip_args T.cmp) heap.old 0 (length heap.old) heap.new }
+    ensures bag { IsPermutation heap.old heap.new }
 {
-    let mut i = 0;
-    while i < n / 2 {
-        let child = first_child(s, i, n);
-        if !before_at(s, child, i) {
+    let mut at = 0;
+    while at < heap.len() / 2 {
+        let child = first_child(heap, at);
+        if heap[at] <= heap[child] {
             return;
         }
-        s.swap(i, child);
-        i = child;
+        heap.swap(at, child);
+        at = child;
     }
 }

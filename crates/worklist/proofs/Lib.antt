@@ -2,4 +2,3 @@ mod Rings
 pub mod Marking
 mod Waiting
 mod Sets
-pub mod Whens

@@ -1,13 +1,15 @@
 -- First in, first out.
-use Rattle.std.specs.Prelude.{◌≡◌, ℕ, ◌<◌, ◌≤◌, Bool, true, false, cond, List, [], ◌∷◌, ◌++◌, Some, None, Option, ◌≢◌, nat_lt, slice_index_or, refl}
+use Rattle.std.specs.Prelude.{◌≡◌, ℕ, ◌<◌, ◌≤◌, Bool, true, false, cond, List, [], ◌∷◌, ◌++◌, Some, None, Option, ◌≢◌, nat_lt, refl}
 use Rattle.std.proofs.Common.{sym, ap, ◌∙◌, arith}
 use Rattle.std.proofs.lemmas.Bool.{lt-ltb, le-ltb, ltb-true}
-use Rattle.worklist.specs.declared.ring.Fifo.{Fifo}
+use Rattle.worklist.specs.declared.fifo.Fifo.{Fifo}
 use Rattle.worklist.specs.Work.{Work, Orderly}
+use Rattle.worklist.specs.NodeSets as sets
+use Rattle.worklist.specs.NodeSets.{bound_of, at_most_once}
 use Rattle.worklist.specs.Lines.{times, among, around, times_push_same, times_push_other, times_cons_same, times_cons_other}
 
 abbrev pub limit : Fifo → ℕ
-limit l = l.bound
+limit l = bound_of l.nodes
 
 -- the waiting nodes, the oldest first
 abbrev pub waiting : Fifo → List ℕ
@@ -46,16 +48,8 @@ put_keeps l m v key p x ne = go (waits l v) p.line
     go true q = ap (among x) q
     go false q = ap (among x) q ∙ ap (nat_lt 0) (times_push_other (waiting l) v x ne)
 
--- no node stands in the line twice
-at_most_once : (l : Fifo) (v : ℕ) → times v (waiting l) ≤ 1
-at_most_once l v = go (slice_index_or l.marks v false) (l.once v)
-  where
-    go : (b : Bool) → times v (waiting l) ≡ cond b 1 0 → times v (waiting l) ≤ 1
-    go true e = omega arith
-    go false e = omega arith
-
 take_removes : (l m : Fifo) (v : ℕ) → Takes l (Some v) m → waits m v ≡ false
-take_removes l m v p = le-ltb 0 (times v (waiting m)) (omega (arith, at_most_once l v, times_cons_same (waiting m) v, ap (times v) p.1))
+take_removes l m v p = le-ltb 0 (times v (waiting m)) (omega (arith, at_most_once l.nodes _ l.once v, times_cons_same (waiting m) v, ap (times v) p.1))
 
 pub fifo_orderly : Orderly fifo_work
 fifo_orderly = record {
@@ -70,14 +64,10 @@ fifo_orderly = record {
 }
 
 pub below_bound : (l : Fifo) (v : ℕ) → waits l v ≡ true → v < limit l
-below_bound l v e = go (slice_index_or l.marks v false) refl (l.once v)
-  where
-    go : (b : Bool) → slice_index_or l.marks v false ≡ b → times v (waiting l) ≡ cond b 1 0 → v < limit l
-    go true f q = l.below v f
-    go false f q = absurd (omega (arith, ltb-true 0 (times v (waiting l)) e))
+below_bound l v e = sets.below_bound l.nodes _ l.once v (ltb-true 0 (times v (waiting l)) e)
 
-pub in_range : (l : Fifo) → Unit {0} → (1 ≤ limit l) × (limit l ≤ 1024)
-in_range l _ = (l.sizes.0, l.sizes.1)
+pub in_range : (l : Fifo) → (1 ≤ limit l) × (limit l ≤ 1024)
+in_range l = l.nodes.in_range
 
 pub put_bound : (l m : Fifo) (v key : ℕ) → Puts l v key m → limit m ≡ limit l
 put_bound l m v key p = p.bound

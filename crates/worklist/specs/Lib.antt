@@ -1,3 +1,4 @@
 pub mod Work
+pub mod NodeSets
 pub mod Lines
 pub mod Fifos

@@ -1,5 +1,5 @@
 -- Nodes in a line, kept in a ring of 1,024 places. Assumes nothing.
-use Rattle.std.specs.Prelude.{◌≡◌, ℕ, ◌+◌, ◌%◌, ◌<◌, Bool, true, false, cond, List, [], ◌∷◌, ◌++◌, map, length, count_by, ◌==◌, ◌≢◌, nat_eq, nat_lt, slice_index, slice_index_or, refl}
+use Rattle.std.specs.Prelude.{◌≡◌, ℕ, ◌+◌, ◌%◌, Bool, cond, List, [], ◌∷◌, ◌++◌, map, count_by, ◌==◌, ◌≢◌, nat_eq, nat_lt, slice_index, refl}
 use Rattle.std.proofs.Common.{ap, ◌∙◌, arith}
 use Rattle.std.specs.List.{range_with_len}
 use Rattle.std.proofs.lemmas.Bool.{eq-eqb, ne_eqb}
@@ -15,16 +15,6 @@ among v line = nat_lt 0 (times v line)
 -- count nodes, from the place first on; the place after the last is the first
 unfoldable pub around : List ℕ → ℕ → ℕ → List ℕ
 around ring first count = map (λ i. slice_index ring ((first + i) % 1024)) (range_with_len 0 count)
-
--- how many nodes are marked
-abbrev pub marked : List Bool → ℕ
-marked marks = count_by (λ mark. mark) marks
-
--- the marks, one a node, tell which nodes are counted: each lies below n, and counts once
-pub record Marks (n : ℕ) (marks : List Bool) (count : ℕ → ℕ) : Type 0 where
-  pub long : length marks ≡ 1024
-  pub once : (v : ℕ) → count v ≡ cond (slice_index_or marks v false) 1 0
-  pub below : (v : ℕ) → slice_index_or marks v false ≡ true → v < n
 
 -- ---- how often a node stands in a line that is one longer
 pub times_push_same : (line : List ℕ) (v : ℕ) → times v (line ++ v ∷ []) ≡ times v line + 1

@@ -1,41 +1,101 @@
-ghost use Rattle.std.specs.Prelude.{◌≡◌, ℕ, ◌<◌, ◌≤◌, []};
-ghost use Rattle.worklist.specs.Fifos.{limit, waiting, fifo_work, fifo_orderly, below_bound, in_range, put_bound, take_bound, clear_bound};
+ghost use Rattle.std.specs.Prelude.{◌≡◌, ℕ, ◌<◌, [], length};
+ghost use Rattle.worklist.specs.NodeSets.{size, EachOnce};
+ghost use Rattle.worklist.specs.Lines.{times, around};
 
-use crate::ring::{Fifo, PLACES};
-use crate::{MOST_NODES, WorkList};
+use crate::nodes::PLACES;
+use crate::{NodeSet, WorkList};
 use refusal::Refusal;
 
+/// A work list that takes the node that has waited longest; each call but a clear takes constant time.
+// A ring in fixed memory, and no `VecDeque`: a work list allocates nothing.
+#[derive(Debug, Drop)]
+pub struct Fifo {
+    /// The waiting nodes.
+    nodes: NodeSet,
+    /// The place of the oldest.
+    first: usize,
+    /// How many wait.
+    count: usize,
+    /// The waiting nodes, from the oldest on; the place after the last is the first.
+    ring: [u32; PLACES],
+    ghost sizes: { (first < 1024) × (length ring ≡ 1024) },
+    ghost tally: { size nodes ≡ count },
+    ghost once: { EachOnce nodes (λ v. times v (around ring first count)) },
+}
+
 impl Fifo {
+    ghost use Rattle.worklist.specs.NodeSets.{bound_of, IsEmpty};
+    ghost use Rattle.worklist.specs.Fifos.{limit, waiting};
+
     /// A list of bound 1, with nothing waiting.
     pub fn new() -> Fifo
         ensures bound_one { limit result ≡ 1 }
         ensures nothing_waits { waiting result ≡ [] }
     {
-        Fifo::idle(1)
+        Fifo::idle(NodeSet::new(1))
     }
 
-    /// A list of this bound, with nothing waiting.
-    fn idle(bound: u32) -> Fifo
-        requires in_range { (1 ≤ bound) × (bound ≤ 1024) }
-        ensures bound_set { limit result ≡ bound }
+    /// A list with nothing waiting, of the bound of the empty set given.
+    fn idle(nodes: NodeSet) -> Fifo
+        requires { IsEmpty nodes }
+        ensures bound_set { limit result ≡ bound_of nodes }
         ensures nothing_waits { waiting result ≡ [] }
     {
         Fifo {
-            bound,
+            nodes,
             first: 0,
             count: 0,
             ring: [0; PLACES],
-            marks: [false; PLACES],
         }
     }
 }
 
+impl Default for Fifo {
+    ghost use Rattle.worklist.specs.Fifos.{limit, waiting};
+
+    ghost is_default = { λ l. (limit l ≡ 1) × (waiting l ≡ []) };
+
+    fn default() -> Fifo {
+        Fifo::new()
+    }
+}
+
 impl WorkList for Fifo {
-    ghost ok = { λ _. Unit {0} };
+    ghost use Rattle.worklist.specs.Fifos.{limit, fifo_work, fifo_orderly, below_bound, in_range, put_bound, take_bound, clear_bound};
 
     ghost bound = { limit };
 
     ghost work = { fifo_work };
+
+    fn bound(&self) -> u32 {
+        self.nodes.bound()
+    }
+
+    fn is_empty(&self) -> bool {
+        self.count == 0
+    }
+
+    fn put(&mut self, node: u32, _key: u32) -> Result<(), Refusal> {
+        if self.nodes.insert(node)? {
+            self.ring[(self.first + self.count) % PLACES] = node;
+            self.count += 1;
+        }
+        Ok(())
+    }
+
+    fn take(&mut self) -> Option<u32> {
+        let rest = self.count.checked_sub(1)?;
+        let node = self.ring[self.first];
+        self.nodes.remove(node);
+        self.first = (self.first + 1) % PLACES;
+        self.count = rest;
+        Some(node)
+    }
+
+    fn clear(&mut self, nodes: u32) -> Result<(), Refusal> {
+        *self = Fifo::idle(NodeSet::try_new(nodes)?);
+        Ok(())
+    }
 
     ghost orderly = { fifo_orderly };
 
@@ -48,46 +108,6 @@ impl WorkList for Fifo {
     ghost taking = { take_bound };
 
     ghost clearing = { clear_bound };
-
-    fn bound(&self) -> u32 {
-        self.bound
-    }
-
-    fn is_empty(&self) -> bool {
-        self.count == 0
-    }
-
-    fn put(&mut self, node: u32, _key: u32) -> Result<(), Refusal> {
-        if node >= self.bound {
-            return Err(Refusal::Range);
-        }
-        if !self.marks[node as usize] {
-            let end = (self.first + self.count) % PLACES;
-            self.ring[end] = node;
-            self.marks[node as usize] = true;
-            self.count += 1;
-        }
-        Ok(())
-    }
-
-    fn take(&mut self) -> Option<u32> {
-        let Some(rest) = self.count.checked_sub(1) else {
-            return None;
-        };
-        let node = self.ring[self.first];
-        self.marks[node as usize] = false;
-        self.first = (self.first + 1) % PLACES;
-        self.count = rest;
-        Some(node)
-    }
-
-    fn clear(&mut self, nodes: u32) -> Result<(), Refusal> {
-        if nodes == 0 || nodes > MOST_NODES {
-            return Err(Refusal::Range);
-        }
-        *self = Fifo::idle(nodes);
-        Ok(())
-    }
 }
 
 #[cfg(test)]

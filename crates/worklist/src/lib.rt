@@ -4,7 +4,8 @@
 
 mod fifo;
 mod list;
-mod ring;
+mod nodes;
 
+pub use fifo::Fifo;
 pub use list::{MOST_NODES, WorkList, set_laws_stand};
-pub use ring::Fifo;
+pub use nodes::NodeSet;

@@ -8,13 +8,30 @@ pub const MOST_NODES: u32 = 1024;
 
 /// A work list means a bound and a set of waiting nodes below it. The order in which they are taken is each list's own.
 pub trait WorkList {
-    /// What the list keeps true of its memory: making a list gives it, and every call keeps it.
-    ghost ok: { Self → Type 0 };
-
     ghost bound: { Self → ℕ };
 
     /// Which nodes wait, and what each call does; each list names its own order here.
     ghost work: { Work Self };
+
+    /// The bound.
+    fn bound(&self) -> u32
+        ensures bound_is { result ≡ bound self.now };
+
+    /// Whether no node waits.
+    fn is_empty(&self) -> bool
+        ensures none_waits_or_some { MatchBool result (Idle work self.now) (Idle work self.now → ⊥) };
+
+    /// Adds a node, with its key; one that waits already keeps its first key. Refuses a node that is not below the bound.
+    fn put(&mut self, node: u32, key: u32) -> Result<(), Refusal>
+        ensures puts_or_refuses { MatchResult result (λ _. (node < bound self.old) × work.puts self.old node key self.new) (λ e. Refused (bound self.old ≤ node) self.old e self.new) };
+
+    /// Removes a waiting node and names it; none exactly if none waits.
+    fn take(&mut self) -> Option<u32>
+        ensures takes { work.takes self.old result self.new };
+
+    /// Sets the bound and removes every node. Refuses a bound that is not 1 to 1,024.
+    fn clear(&mut self, nodes: u32) -> Result<(), Refusal>
+        ensures clears_or_refuses { MatchResult result (λ _. (1 ≤ nodes) × (nodes ≤ 1024) × work.clears self.old nodes self.new) (λ e. Refused (1 ≤ nodes → 1024 < nodes) self.old e self.new) };
 
     /// The laws that hold whatever the order.
     ghost orderly: { Orderly work };
@@ -23,7 +40,7 @@ pub trait WorkList {
     ghost inside: { (l : Self) (v : ℕ) → work.waits l v ≡ true → v < bound l };
 
     /// The bound is 1 to 1,024.
-    ghost limits: { (l : Self) → ok l → (1 ≤ bound l) × (bound l ≤ 1024) };
+    ghost limits: { (l : Self) → (1 ≤ bound l) × (bound l ≤ 1024) };
 
     /// Puts and takes keep the bound, and a clear sets it.
     ghost putting: { (l m : Self) (v key : ℕ) → work.puts l v key m → bound m ≡ bound l };
@@ -31,38 +48,11 @@ pub trait WorkList {
     ghost taking: { (l m : Self) (a : OptionT ℕ) → work.takes l a m → bound m ≡ bound l };
 
     ghost clearing: { (l m : Self) (n : ℕ) → work.clears l n m → bound m ≡ n };
-
-    /// The bound.
-    fn bound(&self) -> u32
-        ensures bound_is { result ≡ bound self.now };
-
-    /// Whether no node waits.
-    fn is_empty(&self) -> bool
-        requires { ok self.now }
-        ensures none_waits_or_some { MatchBool result (Idle work self.now) (Idle work self.now → ⊥) };
-
-    /// Adds a node, with its key; one that waits already keeps its first key. Refuses a node that is not below the bound.
-    fn put(&mut self, node: u32, key: u32) -> Result<(), Refusal>
-        requires { ok self.old }
-        ensures stays_ok { ok self.new }
-        ensures puts_or_refuses { MatchResult result (λ _. (node < bound self.old) × work.puts self.old node key self.new) (λ e. Refused (bound self.old ≤ node) self.old e self.new) };
-
-    /// Removes a waiting node and names it; none exactly if none waits.
-    fn take(&mut self) -> Option<u32>
-        requires { ok self.old }
-        ensures stays_ok { ok self.new }
-        ensures takes { work.takes self.old result self.new };
-
-    /// Sets the bound and removes every node. Refuses a bound that is not 1 to 1,024.
-    fn clear(&mut self, nodes: u32) -> Result<(), Refusal>
-        requires { ok self.old }
-        ensures stays_ok { ok self.new }
-        ensures clears_or_refuses { MatchResult result (λ _. (1 ≤ nodes) × (nodes ≤ 1024) × work.clears self.old nodes self.new) (λ e. Refused (1 ≤ nodes → 1024 < nodes) self.old e self.new) };
 }
 
 /// What follows from the laws of every list, on its set of waiting nodes.
 pub fn set_laws_stand<L: WorkList>(_list: &L) -> u8
-    ensures laws_of_the_set { Sets L.WorkList.work }
+    ensures laws_of_the_set { Sets L.work }
 {
     0
 }

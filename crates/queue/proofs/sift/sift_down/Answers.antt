@@ -1,29 +1,39 @@
-use Rattle.std.proofs.Common.{take, arith}
-use Rattle.std.proofs.lemmas.List.Sorted.{IsPermutation-refl}
-use Rattle.queue.proofs.Heaps as heaps
+use Rattle.std.proofs.Common.{length, arith}
+use Rattle.std.specs.Ordering.{flip_args}
+use Rattle.std.proofs.lemmas.Cmp.{back_total}
+use Rattle.std.proofs.lemmas.List.Sorted.{IsPermutation-refl, IsPermutation-trans}
+use Rattle.std.proofs.HeapSift as sifts
+use Rattle.queue.proofs.Comparing.{compares_le}
 use Rattle.queue.proofs.sift.sift_down.Goals as goal
 
-pub loop-i-init : goal.loop-i-init
-loop-i-init g c = (heaps.sink_begins g.T.Entry.before c.args.s.now c.args.n c.requires.loose, IsPermutation-refl _)
+pub loop-at-init : goal.loop-at-init
+loop-at-init g c =
+    let xs = c.args.heap.now in
+    record { len = omega arith; bag = IsPermutation-refl xs; sinking = sifts.sink_begins (flip_args g.T.Ord.cmp) (back_total g.met.T.Ord.total) xs 0 (length xs) }
 
-pub returns-then-not-before_at : goal.returns-then-not-before_at
-returns-then-not-before_at g c =
-    let l = c.loop-i in
+pub loop-at-preserved : goal.loop-at-preserved
+loop-at-preserved g c =
+    let l = c.loop-at in
+    let xs = c.args.heap.now in
     let child = c.first_child-child in
-    record { ordered = heaps.sink_rests g.T.Entry.before g.met.T.Entry.ranks l.s l.i child.result c.args.n child.ensures.child c.if-not-before_at.ensures.by_the_order l.invariant.0; bag = l.invariant.1 }
+    let within = child.ensures.child in
+    let over = compares_le g.met.T.Ord.matches_partial_cmp l.heap l.at child.result c.index-heap-at.result c.index-heap-child.result _ (omega arith) (omega arith) c.index-heap-at.is c.index-heap-child.is g.met.T.Ord.total c.if-le.ensures in
+    record {
+      len = omega arith;
+      bag = IsPermutation-trans xs l.heap c.swap.new.self l.invariant.bag c.swap.ensures.permutation;
+      sinking = sifts.sink_steps (flip_args g.T.Ord.cmp) (back_total g.met.T.Ord.total) xs l.heap c.swap.new.self 0 (length xs) l.at child.result (omega arith) within.0 within.1 (omega arith) (omega arith) c.swap.ensures.after (rw l.invariant.len at child.ensures.first) over l.invariant.sinking;
+    }
 
-pub loop-i-preserved : goal.loop-i-preserved
-loop-i-preserved g c =
-    let l = c.loop-i in
+pub returns-then-le-clause-ordered : goal.returns-then-le-clause-ordered
+returns-then-le-clause-ordered g c =
+    let l = c.loop-at in
+    let xs = c.args.heap.now in
     let child = c.first_child-child in
-    let ys = c.swap.new.self in
-    let n = c.args.n in
-    let was = c.swap.ensures.by_index in (
-      heaps.sink_steps g.T.Entry.before g.met.T.Entry.ranks l.s ys l.i child.result n child.ensures.child was c.if-not-before_at.ensures.by_the_order l.invariant.0,
-      heaps.bag_steps g.T.Entry.before (take n c.args.s.now) l.s ys l.i child.result n (omega arith) (omega arith) (omega arith) was l.invariant.1,
-    )
+    let rests = compares_le g.met.T.Ord.matches_partial_cmp l.heap l.at child.result c.index-heap-at.result c.index-heap-child.result _ (omega arith) (omega arith) c.index-heap-at.is c.index-heap-child.is g.met.T.Ord.total c.if-le.ensures in
+    sifts.sink_rests (flip_args g.T.Ord.cmp) (back_total g.met.T.Ord.total) xs l.heap 0 (length xs) l.at child.result (rw l.invariant.len at child.ensures.first) rests l.invariant.sinking
 
-pub returns : goal.returns
-returns g c =
-    let l = c.loop-i in
-    record { ordered = heaps.sink_ends g.T.Entry.before l.s l.i c.args.n (omega arith) l.invariant.0; bag = l.invariant.1 }
+pub returns-clause-ordered : goal.returns-clause-ordered
+returns-clause-ordered g c =
+    let l = c.loop-at in
+    let xs = c.args.heap.now in
+    sifts.sink_ends (flip_args g.T.Ord.cmp) (back_total g.met.T.Ord.total) xs l.heap 0 (length xs) l.at (omega arith) l.invariant.sinking

@@ -1,28 +1,36 @@
-use Rattle.std.proofs.Common.{◌+◌, ◌-◌, ◌/◌, take, refl, arith}
-use Rattle.std.proofs.lemmas.List.Sorted.{IsPermutation-refl}
-use Rattle.queue.proofs.Heaps as heaps
+use Rattle.std.proofs.Common.{◌-◌, ◌/◌, length, arith}
+use Rattle.std.specs.Ordering.{flip_args}
+use Rattle.std.proofs.lemmas.Cmp.{back_total}
+use Rattle.std.proofs.lemmas.List.Sorted.{IsPermutation-refl, IsPermutation-trans}
+use Rattle.std.proofs.HeapSift as sifts
+use Rattle.queue.proofs.Comparing.{compares_lt}
 use Rattle.queue.proofs.sift.sift_up.Goals as goal
 
-pub loop-i-init : goal.loop-i-init
-loop-i-init g c = (omega arith, heaps.rise_begins g.T.Entry.before c.args.s.now c.args.at c.requires.ordered, IsPermutation-refl _)
+pub loop-at-init : goal.loop-at-init
+loop-at-init g c =
+    let xs = c.args.heap.now in
+    record { within = omega arith; len = omega arith; bag = IsPermutation-refl xs; rising = sifts.rise_begins (flip_args g.T.Ord.cmp) (back_total g.met.T.Ord.total) xs (length xs - 1) }
 
-pub returns-then-not-before_at : goal.returns-then-not-before_at
-returns-then-not-before_at g c =
-    let l = c.loop-i in
-    record { ordered = heaps.rise_rests g.T.Entry.before l.s l.i ((l.i - 1) / 2) (c.args.at + 1) refl c.if-not-before_at.ensures.by_the_order l.invariant.1; bag = l.invariant.2 }
+pub loop-at-preserved : goal.loop-at-preserved
+loop-at-preserved g c =
+    let l = c.loop-at in
+    let up = (l.at - 1) / 2 in
+    let under = compares_lt g.met.T.Ord.matches_partial_cmp l.heap l.at up c.index-heap-at.result c.index-heap-at-in-loop-at.result _ l.invariant.within (omega arith) c.index-heap-at.is c.index-heap-at-in-loop-at.is c.if-lt.ensures in
+    record {
+      within = omega arith;
+      len = omega arith;
+      bag = IsPermutation-trans c.args.heap.now l.heap c.swap.new.self l.invariant.bag c.swap.ensures.permutation;
+      rising = sifts.rise_steps (flip_args g.T.Ord.cmp) (back_total g.met.T.Ord.total) c.args.heap.now l.heap c.swap.new.self (length c.args.heap.now - 1) l.at (omega arith) (omega arith) (omega arith) c.swap.ensures.after under l.invariant.rising;
+    }
 
-pub loop-i-preserved : goal.loop-i-preserved
-loop-i-preserved g c =
-    let l = c.loop-i in
-    let ys = c.swap.new.self in
-    let n = c.args.at + 1 in
-    let was = c.swap.ensures.by_index in (
-      omega arith,
-      heaps.rise_steps g.T.Entry.before g.met.T.Entry.ranks l.s ys l.i ((l.i - 1) / 2) n (omega arith) (omega arith) refl was c.if-not-before_at.ensures.by_the_order l.invariant.1,
-      heaps.bag_steps g.T.Entry.before (take n c.args.s.now) l.s ys l.i ((l.i - 1) / 2) n (omega arith) (omega arith) (omega arith) was l.invariant.2,
-    )
+pub returns-else-lt-clause-ordered : goal.returns-else-lt-clause-ordered
+returns-else-lt-clause-ordered g c =
+    let l = c.loop-at in
+    let up = (l.at - 1) / 2 in
+    let rests = compares_lt g.met.T.Ord.matches_partial_cmp l.heap l.at up c.index-heap-at.result c.index-heap-at-in-loop-at.result _ l.invariant.within (omega arith) c.index-heap-at.is c.index-heap-at-in-loop-at.is c.if-lt.ensures in
+    sifts.rise_rests (flip_args g.T.Ord.cmp) (back_total g.met.T.Ord.total) c.args.heap.now l.heap (length c.args.heap.now - 1) l.at rests l.invariant.rising
 
-pub returns : goal.returns
-returns g c =
-    let l = c.loop-i in
-    record { ordered = heaps.rise_tops g.T.Entry.before l.s l.i (c.args.at + 1) (omega arith) l.invariant.1; bag = l.invariant.2 }
+pub returns-after-loop-at-clause-ordered : goal.returns-after-loop-at-clause-ordered
+returns-after-loop-at-clause-ordered g c =
+    let l = c.loop-at in
+    sifts.rise_tops (flip_args g.T.Ord.cmp) (back_total g.met.T.Ord.total) c.args.heap.now l.heap (length c.args.heap.now - 1) l.at (omega arith) l.invariant.rising

@@ -1,10 +1,17 @@
-use Rattle.std.proofs.Common.{◌+◌, ◌≤◌, take}
+use Rattle.std.proofs.Common.{◌-◌, ◌<◌, ◌≡◌, length}
 use Rattle.std.specs.List.Sorted.{IsPermutation}
-use Rattle.queue.proofs.Heaps.{Rises}
+use Rattle.std.specs.Ordering.{flip_args}
+use Rattle.std.proofs.lemmas.Cmp.{back_total}
+use Rattle.std.proofs.HeapSift as sifts
 use Rattle.queue.proofs.sift.sift_up.Given as goal
 
-abbrev pub invariant-loop-i : goal.invariant-loop-i
-invariant-loop-i g l = (l.i ≤ l.at) × Rises g.T.Entry.before l.s l.i (l.at + 1) × IsPermutation (take (l.at + 1) l.initial.s) (take (l.at + 1) l.s)
+abbrev pub invariant-loop-at : goal.invariant-loop-at
+invariant-loop-at g l = record {
+  within : l.at < length l.heap;
+  len : length l.heap ≡ length l.fn.heap;
+  bag : IsPermutation l.fn.heap l.heap;
+  rising : sifts.Rising (flip_args g.T.Ord.cmp) (back_total g.met.T.Ord.total) l.fn.heap (length l.fn.heap - 1) l.heap l.at;
+}
 
-abbrev pub decreases-loop-i : goal.decreases-loop-i
-decreases-loop-i g l = l.i
+abbrev pub decreases-loop-at : goal.decreases-loop-at
+decreases-loop-at g l = l.at

@@ -1,9 +1,8 @@
-use Rattle.std.proofs.Common.{refl, arith}
-use Rattle.keyed.proofs.Waiting.{blank}
+use Rattle.std.proofs.Common.{arith}
+use Rattle.keyed.proofs.Waiting.{blank_tally, blank_once}
 use Rattle.keyed.proofs.list.Keyed.new.Goals as goal
 
-pub returns : goal.returns
-returns c =
-    let new = c.new.ensures in
-    let long = c.if-slots-lt-PLACES.false in
-    record { makes_or_refuses = (long, blank _ new.sound (omega (arith, new.room, long)) (omega arith) (omega arith) new.empty refl, omega arith, new.empty) }
+pub invariant_of-result : goal.invariant_of-result
+invariant_of-result c =
+    let queue = c.new-2.ensures in
+    record { space = omega (arith, queue.room); tally = blank_tally c.new.result _ c.new.ensures.empty queue.empty; once = blank_once c.new.result _ c.new.ensures.empty queue.empty }

@@ -1,20 +1,19 @@
-use Rattle.std.proofs.Common.{◌+◌, ◌∷◌, take, arith, length-set}
-use Rattle.queue.proofs.Heaps as heaps
+use Rattle.std.proofs.Common.{arith}
+use Rattle.std.proofs.lemmas.List.{length-take-le}
+use Rattle.queue.proofs.Heaps.{push_entry}
 use Rattle.queue.proofs.heap.Queue.push.Goals as goal
 
-pub sift_up-requires : goal.sift_up-requires
-sift_up-requires g c =
-    let q = c.args.self.now in
-    record { within = simp length-set (omega arith); ordered = heaps.put_ordered g.T.Entry.before q.slots.now q.len c.args.entry c.requires.ordered }
-
-pub returns : goal.returns
-returns g c =
-    let q = c.args.self.now in
+pub invariant_of-self : goal.invariant_of-self
+invariant_of-self g c =
+    let q = c.self.inside in
     let up = c.sift_up in
-    let long = length-set q.slots.now q.len c.args.entry in
-    let bag = heaps.put_bag g.T.Entry.before q.slots.now (take (q.len + 1) up.new.s) q.len c.args.entry (omega arith) up.ensures.bag in
-    record {
-      gains_or_refuses = record { len = omega arith; fits = omega arith; bag = heaps.bag_at g.T.Entry.before (c.args.entry ∷ take q.len q.slots.now) up.new.s (q.len + 1) _ (omega arith) bag };
-      sound = record { within = omega arith; ordered = heaps.ordered_at g.T.Entry.before up.new.s (q.len + 1) _ (omega arith) up.ensures.ordered };
-      room = omega arith;
-    }
+    (push_entry g.met.T.Ord.total q.slots.now up.new.heap q.len c.args.entry (omega arith) c.self.invariant up.auto.heap up.ensures.ordered up.ensures.bag).heap
+
+pub returns-clause-gains_or_refuses : goal.returns-clause-gains_or_refuses
+returns-clause-gains_or_refuses g c =
+    let q = c.self.inside in
+    let up = c.sift_up in
+    rw (← c.self.view_is) (record {
+      fits = omega (arith, length-take-le q.len q.slots.now c.self.invariant.0);
+      bag = (push_entry g.met.T.Ord.total q.slots.now up.new.heap q.len c.args.entry (omega arith) c.self.invariant up.auto.heap up.ensures.ordered up.ensures.bag).bag;
+    })

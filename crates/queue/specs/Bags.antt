@@ -1,0 +1,32 @@
+-- A queue is a bag of entries with room for so many; what a call does to it.
+use Rattle.std.specs.Prelude.{◌≡◌, ℕ, ◌<◌, List, [], ◌∷◌, length}
+use Rattle.std.specs.List.Sorted.{IsPermutation}
+use Rattle.std.specs.declared.cmp.Ordering.{Ordering}
+use Rattle.queue.specs.Orders.{Least}
+
+-- the entries, in no promised order, how many fit, and what the slots hold that are not taken
+pub record Bag (X : Type 0) : Type 0 where
+  pub entries : List X
+  pub room : ℕ
+  pub spare : List X
+
+-- p has the entries of q and x
+pub record Gains {X : Type 0} (q : Bag X) (x : X) (p : Bag X) : Type 0 where
+  pub fits : length q.entries < q.room
+  pub bag : IsPermutation (x ∷ q.entries) p.entries
+
+-- q is full: it stays as it was, and the entry x is handed back
+pub record Refuses {X : Type 0} (q : Bag X) (x y : X) (p : Bag X) : Type 0 where
+  pub full : length q.entries ≡ q.room
+  pub back : y ≡ x
+  pub unaltered : p ≡ q
+
+-- p has the entries of q without x, which comes first
+pub record Loses {X : Type 0} (cmp : X → X → Ordering) (q : Bag X) (x : X) (p : Bag X) : Type 0 where
+  pub least : Least cmp x q.entries
+  pub bag : IsPermutation q.entries (x ∷ p.entries)
+
+-- q has no entries, and stays as it was
+pub record Lacks {X : Type 0} (q p : Bag X) : Type 0 where
+  pub none : q.entries ≡ []
+  pub unaltered : p ≡ q
