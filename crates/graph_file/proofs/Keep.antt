@@ -1,31 +1,29 @@
 -- The tables, one line on.
-use Rattle.std.proofs.Common.{◌≡◌, ℕ, zero, suc, ◌+◌, ◌-◌, ◌*◌, ◌<◌, ◌≤◌, true, false, cond, eqb, List, [], ◌∷◌, ◌++◌, length, get_or, take, set, sym, ap, ◌∙◌, inl, inr, arith}
+use Rattle.std.proofs.Common.{◌≡◌, ℕ, zero, suc, ◌+◌, ◌-◌, ◌*◌, ◌<◌, ◌≤◌, true, false, cond, eqb, List, [], ◌∷◌, ◌++◌, length, get_or, take, set, Some, None, sym, ap, ◌∙◌, arith}
 use Rattle.curve.specs.Curve.{no_point}
 use Rattle.curve.specs.declared.points.Point.{Point}
-use Rattle.graph_file.specs.Files.{ends_of, no_arc, no_road}
+use Rattle.graph_file.specs.Files.{ends_of, no_arc}
 use Rattle.graph_file.specs.Gathering.{Kept, weight_of}
 use Rattle.graph_file.specs.Steps.{arc_fits}
-use Rattle.graph_file.specs.declared.machine.State.TheVariants.{Start, File}
+use Rattle.graph_file.specs.declared.machine.Progress.{Progress}
 use Rattle.graph_line.specs.declared.Arc.{Arc}
+use Rattle.network.specs.Tables.{no_road}
 use Rattle.network.specs.declared.tables.Road.{Road}
-use Rattle.std.proofs.lemmas.List.{get_or-set_same, get_or-set_other, get_or_push, get_or_past, get_or_append_left, length_push, take_all, take-append-le}
-use Rattle.std.proofs.lemmas.Bool.{cases_eq, cases_lt, ne_eqb}
+use Rattle.std.proofs.lemmas.Grind.{common_steps}
+use Rattle.std.proofs.lemmas.List.{length_push, take_all, take-append-le}
+use Rattle.std.proofs.lemmas.Bool.{ne_eqb}
+
+-- the progress by its figures
+abbrev pub at : ℕ → ℕ → ℕ → ℕ → Progress
+at nodes roads files done = record { loaded = record { nodes = nodes; roads = roads; files = files }; done = done }
 
 -- an arc that is no arc's place
 push_other : (arcs : List Arc) (a : Arc) (k : ℕ) → (k ≡ length arcs → ⊥) → get_or (arcs ++ a ∷ []) k no_arc ≡ get_or arcs k no_arc
-push_other arcs a k ne =
-    elim (cases_lt k (length arcs)) [
-      | inl l ↦ get_or_append_left arcs (a ∷ []) no_arc k l
-      | inr l ↦ get_or_past (arcs ++ a ∷ []) k no_arc (omega (arith, length_push arcs a)) ∙ sym (get_or_past arcs k no_arc l)
-    ]
+push_other arcs a k ne = grind (arith, common_steps)
 
 -- one more arc, told in a table
-pub told : {X : Type 0} (f : Arc → X) (z : X) (arcs : List Arc) (a : Arc) (table : List X) (n : ℕ) → n ≡ length arcs → n < length table → ((k : ℕ) → get_or table k z ≡ f (get_or arcs k no_arc)) → (k : ℕ) → get_or (set table n (f a)) k z ≡ f (get_or (arcs ++ a ∷ []) k no_arc)
-told f z arcs a table n e l h k =
-    elim (cases_eq k n) [
-      | inl s ↦ rw s (get_or-set_same table n (f a) z l ∙ ap f (sym (get_or_push arcs a no_arc n (sym e))))
-      | inr s ↦ get_or-set_other table n k (f a) z s ∙ h k ∙ ap f (sym (push_other arcs a k (λ q. s (q ∙ sym e))))
-    ]
+told : {X : Type 0} (f : Arc → X) (z : X) (arcs : List Arc) (a : Arc) (table : List X) (n : ℕ) → n ≡ length arcs → n < length table → ((k : ℕ) → get_or table k z ≡ f (get_or arcs k no_arc)) → (k : ℕ) → get_or (set table n (f a)) k z ≡ f (get_or (arcs ++ a ∷ []) k no_arc)
+told f z arcs a table n e l h k = grind (arith, common_steps, push_other)
 
 -- the first file's arcs, with one more
 first_more : (roads : ℕ) (arcs : List Arc) (a : Arc) → length arcs < roads → take roads (arcs ++ a ∷ []) ≡ arcs ++ a ∷ []
@@ -46,22 +44,14 @@ ends_more nodes roads (suc (suc g)) done arcs a table s l t c h k =
     rw b (h k ∙ ap (λ xs. ends_of (get_or xs k no_arc)) (sym (take-append-le roads arcs (a ∷ []) m)))
 
 light_more : (arcs : List Arc) (a : Arc) → a.weight ≤ 10000 → ((k : ℕ) → (get_or arcs k no_arc).weight ≤ 10000) → (k : ℕ) → (get_or (arcs ++ a ∷ []) k no_arc).weight ≤ 10000
-light_more arcs a x h k =
-    elim (cases_eq k (length arcs)) [
-      | inl s ↦ let e = get_or_push arcs a no_arc k (sym s) in omega (arith, ap (λ y. y.weight) e)
-      | inr s ↦ let e = push_other arcs a k s in omega (arith, ap (λ y. y.weight) e, h k)
-    ]
+light_more arcs a x h k = grind (arith, common_steps)
 
 -- one more arc that is allowed
 allowed_more : (nodes : ℕ) (arcs : List Arc) (a : Arc) → arc_fits nodes a ≡ true → ((k : ℕ) → k < length arcs → arc_fits nodes (get_or arcs k no_arc) ≡ true) → (k : ℕ) → k < length (arcs ++ a ∷ []) → arc_fits nodes (get_or (arcs ++ a ∷ []) k no_arc) ≡ true
-allowed_more nodes arcs a x h k l =
-    elim (cases_eq k (length arcs)) [
-      | inl s ↦ ap (arc_fits nodes) (get_or_push arcs a no_arc k (sym s)) ∙ x
-      | inr s ↦ ap (arc_fits nodes) (push_other arcs a k s) ∙ h k (omega (arith, length_push arcs a, s))
-    ]
+allowed_more nodes arcs a x h k l = grind (arith, common_steps)
 
 -- an arc
-pub kept_arc : (nodes roads files done : ℕ) (arcs : List Arc) (a : Arc) (rs : List Road) (ps : List Point) → 1 ≤ files → done < roads → roads ≤ length rs → roads * files ≤ length ps → a.weight ≤ 10000 → arc_fits nodes a ≡ true → Kept (File nodes roads files done) arcs rs ps → Kept (File nodes roads files (done + 1)) (arcs ++ a ∷ []) (cond (eqb files 1) (set rs done (ends_of a)) rs) (set ps ((files - 1) * roads + done) (weight_of a))
+pub kept_arc : (nodes roads files done : ℕ) (arcs : List Arc) (a : Arc) (rs : List Road) (ps : List Point) → 1 ≤ files → done < roads → roads ≤ length rs → roads * files ≤ length ps → a.weight ≤ 10000 → arc_fits nodes a ≡ true → Kept (Some (at nodes roads files done)) arcs rs ps → Kept (Some (at nodes roads files (done + 1))) (arcs ++ a ∷ []) (cond (eqb files 1) (set rs done (ends_of a)) rs) (set ps ((files - 1) * roads + done) (weight_of a))
 kept_arc nodes roads zero done arcs a rs ps s l t u x y kept = grind arith
 kept_arc nodes roads (suc g) done arcs a rs ps s l t u x y kept =
     let e : suc g - 1 ≡ g = omega arith in
@@ -76,11 +66,11 @@ kept_arc nodes roads (suc g) done arcs a rs ps s l t u x y kept =
     }
 
 -- a p line
-pub kept_first : (nodes roads : ℕ) (arcs : List Arc) (rs : List Road) (ps : List Point) → Kept Start arcs rs ps → Kept (File nodes roads 1 0) arcs rs ps
-kept_first nodes roads [] rs ps kept = record { count = omega arith; ends = λ k. kept.ends k ∙ ap (λ xs. ends_of (get_or xs k no_arc)) (sym (take_all {A = Arc} roads [] (omega arith))); weights = kept.weights; light = kept.light; allowed = λ k l. let no : ⊥ = omega arith in elim no [ ] }
-kept_first nodes roads (a ∷ arcs) rs ps kept = let no : ⊥ = omega (arith, kept.count) in elim no [ ]
+pub kept_first : (nodes roads : ℕ) (arcs : List Arc) (rs : List Road) (ps : List Point) → Kept None arcs rs ps → Kept (Some (at nodes roads 1 0)) arcs rs ps
+kept_first nodes roads [] rs ps kept = record { count = omega arith; ends = λ k. kept.ends k ∙ ap (λ xs. ends_of (get_or xs k no_arc)) (sym (take_all {A = Arc} roads [] (omega arith))); weights = kept.weights; light = kept.light; allowed = λ k l. absurd (omega arith) }
+kept_first nodes roads (a ∷ arcs) rs ps kept = absurd (omega (arith, kept.count))
 
-pub kept_next : (nodes roads files done : ℕ) (arcs : List Arc) (rs : List Road) (ps : List Point) → 1 ≤ files → done ≡ roads → Kept (File nodes roads files done) arcs rs ps → Kept (File nodes roads (files + 1) 0) arcs rs ps
+pub kept_next : (nodes roads files done : ℕ) (arcs : List Arc) (rs : List Road) (ps : List Point) → 1 ≤ files → done ≡ roads → Kept (Some (at nodes roads files done)) arcs rs ps → Kept (Some (at nodes roads (files + 1) 0)) arcs rs ps
 kept_next nodes roads zero done arcs rs ps s d kept = grind arith
 kept_next nodes roads (suc g) done arcs rs ps s d kept =
     let e : suc g - 1 ≡ g = omega arith in

@@ -1,23 +1,21 @@
 -- What a step says of the tests before it.
-use Rattle.std.proofs.Common.{◌≡◌, ℕ, Bool, true, false, cond, Ok, Err, Result, refl, arith}
-use Rattle.graph_file.specs.declared.machine.Fault.{Fault}
-use Rattle.graph_file.specs.declared.machine.State.{State}
+use Rattle.std.proofs.Common.{◌≡◌, Bool, true, false, cond, Ok, Err, Result, refl}
 
 -- a refusal is no answer
 pub never : {A E X : Type 0} (e : E) (x : A) → ◌≡◌ {A = Result A E} (Err e) (Ok x) → X
-never e x h = let z : ◌≡◌ {A = ℕ} 0 1 = cc in let no : ⊥ = omega arith in elim no [ ]
+never e x h = absurd (cc)
 
 -- one test
-pub passed : (b : Bool) (s t : State) (w : Fault) → cond b (Ok s) (Err w) ≡ Ok t → (b ≡ true) × (s ≡ t)
+pub passed : {S E : Type 0} (b : Bool) (s t : S) (w : E) → cond b (Ok s) (Err w) ≡ Ok t → (b ≡ true) × (s ≡ t)
 passed true s t w e = (refl, (cc))
 passed false s t w e = never w t e
 
 -- two tests, the first for the text
-pub passed_twice : (b d : Bool) (s t : State) (v w : Fault) → cond b (cond d (Ok s) (Err v)) (Err w) ≡ Ok t → (b ≡ true) × (d ≡ true) × (s ≡ t)
+pub passed_twice : {S E : Type 0} (b d : Bool) (s t : S) (v w : E) → cond b (cond d (Ok s) (Err v)) (Err w) ≡ Ok t → (b ≡ true) × (d ≡ true) × (s ≡ t)
 passed_twice true d s t v w e = let p = passed d s t v e in (refl, p.0, p.1)
 passed_twice false d s t v w e = never w t e
 
 -- a test that must fail, and one that must not
-pub passed_after : (b d : Bool) (s t : State) (v w : Fault) → cond b (Err w) (cond d (Ok s) (Err v)) ≡ Ok t → (b ≡ false) × (d ≡ true) × (s ≡ t)
+pub passed_after : {S E : Type 0} (b d : Bool) (s t : S) (v w : E) → cond b (Err w) (cond d (Ok s) (Err v)) ≡ Ok t → (b ≡ false) × (d ≡ true) × (s ≡ t)
 passed_after true d s t v w e = never w t e
 passed_after false d s t v w e = let p = passed d s t v e in (refl, p.0, p.1)

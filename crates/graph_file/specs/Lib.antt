@@ -4,3 +4,4 @@ pub mod Gathering
 pub mod Placing
 pub mod Loads
 pub mod Rules
+pub mod Frames

@@ -1,24 +1,21 @@
 -- What loading a text gives: the answer, and what every place of the tables holds.
-use Rattle.std.specs.Prelude.{◌≡◌, ℕ, zero, suc, ◌+◌, ◌-◌, ◌*◌, ◌/◌, ◌%◌, min, Bool, true, false, cond, ◌&&◌, List, get_or, Some, Ok, Err, Result, nat_le, nat_lt, slice_index_or}
+use Rattle.std.specs.Prelude.{◌≡◌, ℕ, zero, suc, ◌+◌, ◌-◌, ◌*◌, ◌/◌, ◌%◌, min, Bool, true, false, cond, ◌&&◌, List, get_or, Option, Some, None, Ok, Err, Result, nat_le, nat_lt, slice_index_or}
 use Rattle.curve.specs.Curve.{no_point}
 use Rattle.curve.specs.declared.points.Point.{Point}
-use Rattle.graph_file.specs.Files.{files_in, no_arc, no_road}
+use Rattle.graph_file.specs.Files.{files_in, no_arc}
 use Rattle.graph_file.specs.declared.machine.Limits.{Limits}
 use Rattle.graph_file.specs.declared.machine.Loaded.{Loaded}
 use Rattle.graph_line.specs.declared.Arc.{Arc}
+use Rattle.network.specs.Tables.{no_road}
 use Rattle.network.specs.declared.tables.Road.{Road}
 use Rattle.refusal.specs.declared.Refusal.{Refusal}
 use Rattle.refusal.specs.declared.Refusal.TheVariants.{Figures, Table}
+use Rattle.std.specs.List.{find, range_with_len}
 
 -- n steps from i on: whether one of them falls
 abbrev pub falls_from : (ℕ → ℕ) → ℕ → ℕ → Bool
 falls_from a i zero = false
 falls_from a i (suc n) = cond (nat_lt (a (i + 1)) (a i)) true (falls_from a (i + 1) n)
-
--- the lowest of the n numbers from r on that passes a test, or the one after them
-abbrev pub lowest_from : (ℕ → Bool) → ℕ → ℕ → ℕ
-lowest_from t r zero = r
-lowest_from t r (suc n) = cond (t r) r (lowest_from t (r + 1) n)
 
 -- the arrival of a vehicle that enters road r at the minute of file i
 abbrev pub arrival_of : ℕ → ℕ → List Arc → ℕ → ℕ → ℕ
@@ -28,13 +25,18 @@ arrival_of spacing roads arcs r i = i * spacing + (get_or arcs (i * roads + r) n
 abbrev pub overtakes : ℕ → Loaded → List Arc → ℕ → Bool
 overtakes spacing got arcs r = falls_from (arrival_of spacing got.roads arcs r) 0 (got.files - 1)
 
-abbrev pub lowest_overtaken : ℕ → Loaded → List Arc → ℕ
-lowest_overtaken spacing got arcs = lowest_from (overtakes spacing got arcs) 0 got.roads
+-- the lowest road that is overtaken
+abbrev pub lowest_overtaken : ℕ → Loaded → List Arc → Option ℕ
+lowest_overtaken spacing got arcs = find (overtakes spacing got arcs) (range_with_len 0 got.roads)
+
+-- a road that is overtaken is refused
+abbrev pub unless_found : Loaded × List Arc → Option ℕ → Result (Loaded × List Arc) Refusal
+unless_found p None = Ok p
+unless_found p (Some r) = Err (Table (Some r))
 
 -- overtaking is judged after the whole text
 abbrev pub unless_overtaken : ℕ → Result (Loaded × List Arc) Refusal → Result (Loaded × List Arc) Refusal
-unless_overtaken spacing (Ok p) =
-    cond (nat_lt (lowest_overtaken spacing p.0 p.1) p.0.roads) (Err (Table (Some (lowest_overtaken spacing p.0 p.1)))) (Ok p)
+unless_overtaken spacing (Ok p) = unless_found p (lowest_overtaken spacing p.0 p.1)
 unless_overtaken spacing (Err e) = Err e
 
 -- at most 1,024 nodes, 4,096 roads, the quota and the places of the lent tables

@@ -1,5 +1,4 @@
 pub mod Front
 pub mod Lowest
 pub mod Only
-pub mod Scans
 pub mod Takes

@@ -1,21 +1,20 @@
 -- What is loaded, and the road that is named.
-use Rattle.std.proofs.Common.{◌≡◌, ℕ, ◌-◌, ◌<◌, ◌≤◌, Bool, true, false, cond, ◌&&◌, ltb, leb, List, Some, Ok, Err, Result, sym, refl, subst, arith}
+use Rattle.std.proofs.Common.{◌≡◌, ℕ, ◌-◌, ◌<◌, Bool, true, false, cond, ◌&&◌, leb, List, Some, Option, None, Ok, Err, Result, sym, refl, subst, arith}
 use Rattle.graph_file.proofs.Passing.{never}
-use Rattle.graph_file.proofs.Scan.{none_falls, none_lower}
+use Rattle.graph_file.proofs.Scan.{falls_none, finds_none, found, none_falls, none_found, some_falls}
 use Rattle.graph_file.proofs.Whole.{loads, point_is}
 use Rattle.graph_file.specs.Files.{files_in}
-use Rattle.graph_file.specs.Loads.{arrival_of, lowest_overtaken, overtakes, unless_overtaken}
+use Rattle.graph_file.specs.Loads.{arrival_of, lowest_overtaken, overtakes, unless_found, unless_overtaken}
 use Rattle.graph_file.specs.declared.machine.Loaded.{Loaded}
 use Rattle.graph_laws.proofs.Front.{names_line}
 use Rattle.graph_laws.proofs.Only.{takes_nothing_else}
-use Rattle.graph_laws.proofs.Scans.{falls_none, lowest_lower, lowest_none, lowest_passes, some_falls}
 use Rattle.graph_laws.proofs.Takes.{takes_graph_files}
 use Rattle.graph_laws.specs.Grammar.{all_arcs}
 use Rattle.graph_laws.specs.Overtaking.{LoadsGraphFiles, LoadsNothingElse, Lowest, NamesLowestRoad, Orderly, Overtaken, PointsInRoadOrder}
 use Rattle.graph_line.specs.declared.Arc.{Arc}
 use Rattle.refusal.specs.declared.Refusal.{Refusal}
 use Rattle.refusal.specs.declared.Refusal.TheVariants.{Figures, Table}
-use Rattle.std.proofs.lemmas.Bool.{and_parts, leb-true, ltb-false, ltb-true}
+use Rattle.std.proofs.lemmas.Bool.{and_parts, leb-true}
 
 abbrev Read : Type 0
 Read = Loaded × List Arc
@@ -35,8 +34,8 @@ overtaken_from spacing got arcs r e =
 pub loads_graph_files : LoadsGraphFiles
 loads_graph_files lim spacing text got first more h =
     let arcs = all_arcs first more in
-    let n = lowest_none (overtakes spacing got arcs) 0 got.roads (λ r l m. orderly_test spacing got arcs r (h.orderly r (omega arith))) in
-    loads lim spacing text got arcs (lowest_overtaken spacing got arcs) h.apart h.near (takes_graph_files lim text got first more h.files) refl (omega (arith, n))
+    let n = finds_none (overtakes spacing got arcs) 0 got.roads (λ r l m. orderly_test spacing got arcs r (h.orderly r (omega arith))) in
+    loads lim spacing text got arcs None h.apart h.near (takes_graph_files lim text got first more h.files) (sym n)
 
 -- what an answer says of the minutes between the files
 in_range : (b : Bool) (x : Result Read Refusal) (p : Read) → cond b x (Err Figures) ≡ Ok p → (b ≡ true) × (x ≡ Ok p)
@@ -44,19 +43,18 @@ in_range true x p e = (refl, e)
 in_range false x p e = never Figures p e
 
 -- and of the files
-not_overtaken : (b : Bool) (e : Refusal) (p q : Read) → cond b (Err e) (Ok p) ≡ Ok q → (b ≡ false) × (p ≡ q)
-not_overtaken true e p q h = never e q h
-not_overtaken false e p q h = (refl, (cc))
+not_overtaken : (o : Option ℕ) (p q : Read) → unless_found p o ≡ Ok q → (o ≡ None) × (p ≡ q)
+not_overtaken None p q h = (refl, (cc))
+not_overtaken (Some r) p q h = never (Table (Some r)) q h
 
 record Judged (spacing : ℕ) (x : Result Read Refusal) (p : Read) : Type 0 where
   right : x ≡ Ok p
-  past : p.0.roads ≤ lowest_overtaken spacing p.0 p.1
+  past : lowest_overtaken spacing p.0 p.1 ≡ None
 
 judged_right : (spacing : ℕ) (x : Result Read Refusal) (p : Read) → unless_overtaken spacing x ≡ Ok p → Judged spacing x p
 judged_right spacing (Ok q) p e =
-    let n = lowest_overtaken spacing q.0 q.1 in
-    let h = not_overtaken (ltb n q.0.roads) (Table (Some n)) q p e in
-    subst (λ y. Judged spacing (Ok q) y) h.1 (record { right = refl; past = ltb-false n q.0.roads h.0 })
+    let h = not_overtaken (lowest_overtaken spacing q.0 q.1) q p e in
+    subst (λ y. Judged spacing (Ok q) y) h.1 (record { right = refl; past = h.0 })
 judged_right spacing (Err w) p e = never w p e
 
 pub loads_nothing_else : LoadsNothingElse
@@ -66,7 +64,7 @@ loads_nothing_else lim spacing text got arcs e =
     let j = judged_right spacing (files_in lim text) (got, arcs) s.1 in
     let g = takes_nothing_else lim text got arcs j.right in
     let calm : (r : ℕ) → r < got.roads → Orderly spacing got arcs r =
-    λ r l. orderly_from spacing got arcs r (none_lower (overtakes spacing got arcs) 0 got.roads (omega (arith, j.past)) r (omega arith) (omega arith)) in (
+    λ r l. orderly_from spacing got arcs r (none_found (overtakes spacing got arcs) 0 got.roads j.past r (omega arith) (omega arith)) in (
       g.0,
       g.1,
       record {
@@ -81,11 +79,11 @@ loads_nothing_else lim spacing text got arcs e =
 -- a refusal that names a road comes from overtaking
 named : (b : Bool) (x : Result Read Refusal) (r : ℕ) → cond b x (Err Figures) ≡ Err (Table (Some r)) → x ≡ Err (Table (Some r))
 named true x r e = e
-named false x r e = let z : ◌≡◌ {A = ℕ} 0 1 = cc in let no : ⊥ = omega arith in elim no [ ]
+named false x r e = absurd (cc)
 
-lowest_named : (b : Bool) (n r : ℕ) (p : Read) → cond b (Err (Table (Some n))) (Ok p) ≡ Err (Table (Some r)) → (b ≡ true) × (n ≡ r)
-lowest_named true n r p e = (refl, (cc))
-lowest_named false n r p e = never (Table (Some r)) p (sym e)
+lowest_named : (o : Option ℕ) (r : ℕ) (p : Read) → unless_found p o ≡ Err (Table (Some r)) → o ≡ Some r
+lowest_named None r p e = never (Table (Some r)) p (sym e)
+lowest_named (Some n) r p e = cc
 
 lowest_in : (spacing : ℕ) (x : Result Read Refusal) (r : ℕ) → (x ≡ Err (Table (Some r)) → ⊥) → unless_overtaken spacing x ≡ Err (Table (Some r)) → (got : Loaded) × (arcs : List Arc) × (x ≡ Ok (got, arcs)) × Lowest spacing got arcs r
 lowest_in spacing (Err w) r h e = let no : ⊥ = h e in elim no [ ]
@@ -93,17 +91,15 @@ lowest_in spacing (Ok q) r h e =
     let got = q.0 in
     let arcs = q.1 in
     let t = overtakes spacing got arcs in
-    let n = lowest_overtaken spacing got arcs in
-    let s = lowest_named (ltb n got.roads) n r q e in
-    let l = ltb-true n got.roads s.0 in (
+    let f = found t 0 got.roads r (lowest_named (lowest_overtaken spacing got arcs) r q e) in (
       got,
       arcs,
       refl,
-      subst (Lowest spacing got arcs) s.1 (record {
-        below = l;
-        overtaken = overtaken_from spacing got arcs n (lowest_passes t 0 got.roads (omega arith));
-        lower = λ q m. orderly_from spacing got arcs q (lowest_lower t 0 got.roads q (omega arith) m);
-      }),
+      record {
+        below = omega (arith, f.below);
+        overtaken = overtaken_from spacing got arcs r f.passes;
+        lower = λ q m. orderly_from spacing got arcs q (f.lower q (omega arith) m);
+      },
     )
 
 pub names_lowest_road : NamesLowestRoad

@@ -1,5 +1,5 @@
 -- Nothing but graph files is taken.
-use Rattle.std.proofs.Common.{◌≡◌, ℕ, zero, suc, ◌+◌, ◌-◌, ◌*◌, ◌<◌, ◌≤◌, Bool, true, false, cond, ◌&&◌, ◌||◌, eqb, ltb, leb, ◌⊎◌, List, [], ◌∷◌, ◌++◌, map, length, get_or, take, Ok, Err, Result, sym, refl, ap, ◌∙◌, subst, inl, inr, arith}
+use Rattle.std.proofs.Common.{◌≡◌, ℕ, zero, suc, ◌+◌, ◌-◌, ◌*◌, ◌<◌, ◌≤◌, Bool, true, false, cond, ◌&&◌, ◌||◌, eqb, ltb, leb, ◌⊎◌, List, [], ◌∷◌, ◌++◌, map, length, get_or, take, Option, Some, None, Ok, Err, Result, sym, refl, ap, ◌∙◌, subst, inl, inr, arith}
 use Rattle.graph_laws.specs.Grammar.{AllRepeat, GraphFiles, TakesNothingElse, Repeats, file_lines, spoken}
 use Rattle.graph_file.proofs.Passing.{never, passed, passed_after, passed_twice}
 use Rattle.graph_file.specs.Files.{end_of, ends_of, file_of, here_of, judged, line_at, no_arc, or_refused, refused_at, with_arcs}
@@ -9,8 +9,8 @@ use Rattle.graph_file.specs.declared.machine.Loaded.{Loaded}
 use Rattle.refusal.specs.declared.Refusal.{Refusal}
 use Rattle.refusal.specs.declared.Refusal.TheVariants.{Text}
 use Rattle.network.specs.declared.tables.Road.{Road}
-use Rattle.graph_file.specs.declared.machine.State.{State}
-use Rattle.graph_file.specs.declared.machine.State.TheVariants.{Start, File}
+use Rattle.graph_file.specs.declared.machine.Progress.{Progress}
+use Rattle.graph_file.proofs.Keep.{at}
 use Rattle.graph_file.specs.declared.machine.Fault.{Fault}
 use Rattle.graph_file.specs.declared.machine.Fault.TheVariants.{BadText, OverQuota}
 use Rattle.graph_line.specs.Statements.{statements}
@@ -35,7 +35,7 @@ ended : (b : Bool) (bs all : List Arc) (r got : Loaded) (e : Refusal) → with_a
 ended true bs all r got e h = let p : ◌≡◌ {A = Read} (r, bs) (got, all) = cc in (refl, ap (λ x. x.0) p, ap (λ x. x.1) p)
 ended false bs all r got e h = never e (got, all) h
 
-stepped : (file k : ℕ) (x : Result State Fault) (go : State → Result Read Refusal) (p : Read) → or_refused file k x go ≡ Ok p → (t : State) × (x ≡ Ok t) × (go t ≡ Ok p)
+stepped : (file k : ℕ) (x : Result (Option Progress) Fault) (go : Option Progress → Result Read Refusal) (p : Read) → or_refused file k x go ≡ Ok p → (t : Option Progress) × (x ≡ Ok t) × (go t ≡ Ok p)
 stepped file k (Ok t) go p h = (t, refl, h)
 stepped file k (Err w) go p h = never (refused_at w file k) p h
 
@@ -57,7 +57,7 @@ record Rest (lim : Limits) (n m f d : ℕ) (bs all : List Arc) (ls : List Statem
   same : (j : ℕ) → j < length g → ends_of (get_or g j no_arc) ≡ ends_of (get_or (take m all) (d + j) no_arc)
   right : AllRepeat n m (take m all) fs
 
-at_end : (lim : Limits) (n m f d k : ℕ) (bs all : List Arc) (got : Loaded) → f ≤ 48 → m * f ≤ lim.points → with_arcs bs (end_of (File n m f d) k) ≡ Ok (got, all) → Rest lim n m f d bs all [] got
+at_end : (lim : Limits) (n m f d k : ℕ) (bs all : List Arc) (got : Loaded) → f ≤ 48 → m * f ≤ lim.points → with_arcs bs (end_of (Some (at n m f d)) k) ≡ Ok (got, all) → Rest lim n m f d bs all [] got
 at_end lim n m f d k bs all got u v h =
     let e = ended (eqb d m) bs all (figures n m f) got (Text (line_at f k)) h in
     let z : f ≡ f + 0 = omega arith in
@@ -70,8 +70,8 @@ at_end lim n m f d k bs all got u v h =
       figured = sym e.1 ∙ ap (figures n m) z;
       many = omega arith;
       room = subst (λ x. m * x ≤ lim.points) z v;
-      allowed = λ j l. let no : ⊥ = omega arith in elim no [ ];
-      same = λ j l. let no : ⊥ = omega arith in elim no [ ];
+      allowed = λ j l. absurd (omega arith);
+      same = λ j l. absurd (omega arith);
       right = tt;
     }
 
@@ -88,8 +88,8 @@ at_size lim n m f d a b bs all ls got e p q r =
       figured = r.figured ∙ ap (figures n m) z;
       many = omega (arith, r.many);
       room = subst (λ x. m * x ≤ lim.points) z r.room;
-      allowed = λ j l. let no : ⊥ = omega arith in elim no [ ];
-      same = λ j l. let no : ⊥ = omega arith in elim no [ ];
+      allowed = λ j l. absurd (omega arith);
+      same = λ j l. absurd (omega arith);
       right = (record { size = omega (arith, r.size); allowed = r.allowed; ends = λ j l. let y : 0 + j ≡ j = omega arith in r.same j l ∙ ap (λ x. ends_of (get_or (take m all) x no_arc)) y }, r.right);
     }
 
@@ -141,44 +141,44 @@ known_size : (m f d : ℕ) (bs : List Arc) → d ≡ m → Known m f d bs → Kn
 known_size m f d bs e (inl k) = inr (omega (arith, k.0), omega (arith, k.1, e))
 known_size m f d bs e (inr k) = inr (omega (arith, k.0), k.1)
 
-rest : (lim : Limits) (n m f d k : ℕ) (bs all : List Arc) (ls : List Statement) (got : Loaded) → f ≤ 48 → m * f ≤ lim.points → Known m f d bs → judged lim (File n m f d) bs k ls ≡ Ok (got, all) → Rest lim n m f d bs all ls got
+rest : (lim : Limits) (n m f d k : ℕ) (bs all : List Arc) (ls : List Statement) (got : Loaded) → f ≤ 48 → m * f ≤ lim.points → Known m f d bs → judged lim (Some (at n m f d)) bs k ls ≡ Ok (got, all) → Rest lim n m f d bs all ls got
 rest lim n m f d k bs all [] got u v known h = at_end lim n m f d k bs all got u v h
 rest lim n m f d k bs all (Comment ∷ ls) got u v known h =
-    let i = subst (λ xs. judged lim (File n m f d) xs (k + 1) ls ≡ Ok (got, all)) (append-nil bs) h in
+    let i = subst (λ xs. judged lim (Some (at n m f d)) xs (k + 1) ls ≡ Ok (got, all)) (append-nil bs) h in
     let r = rest lim n m f d (k + 1) bs all ls got u v known i in
     record { g = r.g; fs = r.fs; lines = r.lines; arcs = r.arcs; size = r.size; figured = r.figured; many = r.many; room = r.room; allowed = r.allowed; same = r.same; right = r.right }
 rest lim n m f d k bs all (Problem a b ∷ ls) got u v known h =
-    let s = stepped (file_of (File n m f d) (Problem a b)) k (step lim (File n m f d) (here_of (File n m f d) bs) (Problem a b)) (λ t. judged lim t (bs ++ []) (k + 1) ls) (got, all) h in
-    let p = passed_twice (eqb d m && (eqb a n && eqb b m)) (ltb f 48 && leb (m * (f + 1)) lim.points) (File n m (f + 1) 0) s.0 OverQuota BadText s.1 in
+    let s = stepped (file_of (Some (at n m f d)) (Problem a b)) k (step lim (Some (at n m f d)) (here_of (Some (at n m f d)) bs) (Problem a b)) (λ t. judged lim t (bs ++ []) (k + 1) ls) (got, all) h in
+    let p = passed_twice (eqb d m && (eqb a n && eqb b m)) (ltb f 48 && leb (m * (f + 1)) lim.points) (Some (at n m (f + 1) 0)) s.0 OverQuota BadText s.1 in
     let q = and_parts (eqb d m) (eqb a n && eqb b m) p.0 in
     let o = and_parts (eqb a n) (eqb b m) q.1 in
     let w = and_parts (ltb f 48) (leb (m * (f + 1)) lim.points) p.1 in
     let x = ltb-true f 48 w.0 in
     let e = eqb-true d m q.0 in
     let i = subst (λ t. judged lim t (bs ++ []) (k + 1) ls ≡ Ok (got, all)) (sym p.2) s.2 in
-    let y = subst (λ xs. judged lim (File n m (f + 1) 0) xs (k + 1) ls ≡ Ok (got, all)) (append-nil bs) i in
+    let y = subst (λ xs. judged lim (Some (at n m (f + 1) 0)) xs (k + 1) ls ≡ Ok (got, all)) (append-nil bs) i in
     at_size lim n m f d a b bs all ls got e (eqb-true a n o.0) (eqb-true b m o.1) (rest lim n m (f + 1) 0 (k + 1) bs all ls got (omega arith) (leb-true (m * (f + 1)) lim.points w.1) (known_size m f d bs e known) y)
 rest lim n m f d k bs all (Crossing a ∷ ls) got u v known h =
-    let s = stepped (file_of (File n m f d) (Crossing a)) k (step lim (File n m f d) (here_of (File n m f d) bs) (Crossing a)) (λ t. judged lim t (bs ++ a ∷ []) (k + 1) ls) (got, all) h in
+    let s = stepped (file_of (Some (at n m f d)) (Crossing a)) k (step lim (Some (at n m f d)) (here_of (Some (at n m f d)) bs) (Crossing a)) (λ t. judged lim t (bs ++ a ∷ []) (k + 1) ls) (got, all) h in
     let x = ends_of (get_or (take m bs) d no_arc) in
-    let p = passed (ltb d m && (arc_fits n a && (eqb f 1 || same_ends x a))) (File n m f (d + 1)) s.0 BadText s.1 in
+    let p = passed (ltb d m && (arc_fits n a && (eqb f 1 || same_ends x a))) (Some (at n m f (d + 1))) s.0 BadText s.1 in
     let q = and_parts (ltb d m) (arc_fits n a && (eqb f 1 || same_ends x a)) p.0 in
     let o = and_parts (arc_fits n a) (eqb f 1 || same_ends x a) q.1 in
     let i = subst (λ t. judged lim t (bs ++ a ∷ []) (k + 1) ls ≡ Ok (got, all)) (sym p.1) s.2 in
     at_arc lim n m f d bs all a ls got (ltb-true d m q.0) o.0 known o.1 (rest lim n m f (d + 1) (k + 1) (bs ++ a ∷ []) all ls got u v (known_arc m f d bs a known) i)
-rest lim n m f d k bs all (BrokenProblem ∷ ls) got u v known h = never (Text (line_at (file_of (File n m f d) BrokenProblem) k)) (got, all) h
-rest lim n m f d k bs all (Broken ∷ ls) got u v known h = never (Text (line_at (file_of (File n m f d) Broken) k)) (got, all) h
+rest lim n m f d k bs all (BrokenProblem ∷ ls) got u v known h = never (Text (line_at (file_of (Some (at n m f d)) BrokenProblem) k)) (got, all) h
+rest lim n m f d k bs all (Broken ∷ ls) got u v known h = never (Text (line_at (file_of (Some (at n m f d)) Broken) k)) (got, all) h
 
 -- the whole text
-whole : (lim : Limits) (k : ℕ) (ls : List Statement) (got : Loaded) (all : List Arc) → judged lim Start [] k ls ≡ Ok (got, all) → (first : List Arc) × (more : List (List Arc)) × GraphFiles lim ls got first more × (all ≡ flat_map (λ f. f) (first ∷ more))
+whole : (lim : Limits) (k : ℕ) (ls : List Statement) (got : Loaded) (all : List Arc) → judged lim None [] k ls ≡ Ok (got, all) → (first : List Arc) × (more : List (List Arc)) × GraphFiles lim ls got first more × (all ≡ flat_map (λ f. f) (first ∷ more))
 whole lim k [] got all h = never (Text (line_at 1 k)) (got, all) h
 whole lim k (Comment ∷ ls) got all h =
     let r = whole lim (k + 1) ls got all h in
     let g = r.2 in
     (r.0, r.1, record { consists = g.consists; count = g.count; many = g.many; some = g.some; nodes_fit = g.nodes_fit; roads_fit = g.roads_fit; points_fit = g.points_fit; right = g.right }, r.3)
 whole lim k (Problem n m ∷ ls) got all h =
-    let s = stepped (file_of Start (Problem n m)) k (step lim Start (here_of Start []) (Problem n m)) (λ t. judged lim t [] (k + 1) ls) (got, all) h in
-    let p = passed_after (eqb n 0) (leb n lim.nodes && (leb m lim.roads && leb m lim.points)) (File n m 1 0) s.0 OverQuota BadText s.1 in
+    let s = stepped (file_of None (Problem n m)) k (step lim None (here_of None []) (Problem n m)) (λ t. judged lim t [] (k + 1) ls) (got, all) h in
+    let p = passed_after (eqb n 0) (leb n lim.nodes && (leb m lim.roads && leb m lim.points)) (Some (at n m 1 0)) s.0 OverQuota BadText s.1 in
     let q = and_parts (leb n lim.nodes) (leb m lim.roads && leb m lim.points) p.1 in
     let o = and_parts (leb m lim.roads) (leb m lim.points) q.1 in
     let i = subst (λ t. judged lim t [] (k + 1) ls ≡ Ok (got, all)) (sym p.2) s.2 in

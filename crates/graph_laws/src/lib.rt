@@ -67,12 +67,8 @@ mod tests {
             load(text, spacing, 64, &mut roads, &mut points),
             Err(refusal)
         );
-        for road in roads {
-            assert_eq!(rt; road.count, 0);
-        }
-        for point in points {
-            assert_eq!(rt; point.departure, 0);
-        }
+        assert_eq!(rt; roads, [Road::default(); 3]);
+        assert_eq!(rt; points, [Point::default(); 6]);
     }
 
     #[test]
@@ -86,13 +82,22 @@ mod tests {
             files: 2,
         };
         assert_eq!(rt; load(text, 60, 64, &mut roads, &mut points), Ok(loaded));
-        assert_eq!(rt;
-            (roads[0].tail, roads[0].head, roads[0].first, roads[0].count),
-            (0, 1, 0, 2)
-        );
-        assert_eq!(rt; (points[0].departure, points[0].arrival), (0, 30));
-        assert_eq!(rt; (points[1].departure, points[1].arrival), (60, 110));
-        assert_eq!(rt; (points[2].departure, points[2].arrival), (0, 0));
+        let road = Road {
+            tail: 0,
+            head: 1,
+            first: 0,
+            count: 2,
+        };
+        assert_eq!(rt; roads, [road, Road::default()]);
+        let first = Point {
+            departure: 0,
+            arrival: 30,
+        };
+        let second = Point {
+            departure: 60,
+            arrival: 110,
+        };
+        assert_eq!(rt; points, [first, second, Point::default()]);
     }
 
     #[test]
