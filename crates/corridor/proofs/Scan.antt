@@ -8,9 +8,9 @@ use Rattle.corridor.specs.Corridor.{Serves, Next, point}
 use Rattle.corridor.specs.Funnels.{Admits, Within, Seen, Fits}
 
 -- before the first minute
-pub seen_none : (lo up : ℕ → ℕ) (p : Point) (f : Funnel) → 0 < f.lower.run → ((n m : ℕ) → 0 < m → Admits f n m) → Seen lo up p (p.departure + 1) f
-seen_none lo up p f positive all =
-    record { positive = positive; sound = λ n m _ _ x a b. (omega arith, omega arith); whole = λ n m pos _. all n m pos }
+pub seen_none : (lo up : ℕ → ℕ) (p : Point) (f : Funnel) → ((n m : ℕ) → 0 < m → Admits f n m) → Seen lo up p (p.departure + 1) f
+seen_none lo up p f all =
+    record { sound = λ n m _ _ x a b. (omega arith, omega arith); whole = λ n m pos _. all n m pos }
 
 module _ (lo up : ℕ → ℕ) (p : Point) (s : ℕ) (f : Funnel) (seen : Seen lo up p s f) (later : p.departure < s) where
   pub serves_if : (z : ℕ) → Fits f p (point s z) → Serves lo up p s z
@@ -48,11 +48,10 @@ module _ (lo up : ℕ → ℕ) (p : Point) (s : ℕ) (f : Funnel) (seen : Seen l
       }
 
   -- one more minute is seen
-  pub seen_more : (r : Funnel) → 0 < r.lower.run → ((n m : ℕ) → 0 < m → Admits r n m → Admits f n m × Within lo up p s n m)
+  pub seen_more : (r : Funnel) → ((n m : ℕ) → 0 < m → Admits r n m → Admits f n m × Within lo up p s n m)
       → ((n m : ℕ) → 0 < m → Admits f n m → Within lo up p s n m → Admits r n m) → Seen lo up p (s + 1) r
-  seen_more r positive both whole =
+  seen_more r both whole =
       record {
-        positive = positive;
         sound = λ n m pos h x a b. let k = both n m pos h in
             elim (cases_lt x s) [ inl l ↦ seen.sound n m pos k.0 x a l | inr l ↦ let e : s ≡ x = omega arith in subst (λ x. Within lo up p x n m) e k.1 ];
         whole = λ n m pos h. whole n m pos (seen.whole n m pos (λ x a b. h x a (omega arith))) (h s later (omega arith));

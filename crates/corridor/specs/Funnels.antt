@@ -1,7 +1,6 @@
 -- What the slopes of a scan mean.
-use Rattle.std.specs.Prelude.{ℕ, ◌+◌, ◌-◌, ◌*◌, ◌<◌, ◌≤◌, List, length}
+use Rattle.std.specs.Prelude.{ℕ, ◌+◌, ◌-◌, ◌*◌, ◌<◌, ◌≤◌}
 use Rattle.curve.specs.declared.points.Point.{Point}
-use Rattle.corridor.specs.Curves.{Curves, curve_of}
 use Rattle.corridor.specs.declared.funnel.Slope.{Slope}
 use Rattle.corridor.specs.declared.funnel.Funnel.{Funnel}
 
@@ -32,13 +31,5 @@ Within lo up p x n m = ((lo x - p.arrival) * m ≤ n * (x - p.departure)) × (n 
 
 -- the funnel admits the lines that lie within at every minute after p's and before s, and no others
 pub record Seen (lo up : ℕ → ℕ) (p : Point) (s : ℕ) (f : Funnel) : Type 0 where
-  pub positive : 0 < f.lower.run
   pub sound : (n m : ℕ) → 0 < m → Admits f n m → (x : ℕ) → p.departure < x → x < s → Within lo up p x n m
   pub whole : (n m : ℕ) → 0 < m → ((x : ℕ) → p.departure < x → x < s → Within lo up p x n m) → Admits f n m
-
--- a scan from p has come to minute s
-pub record Scanning (lo up : List ℕ) (p : Point) (s : ℕ) : Type 0 where
-  pub curves : Curves lo up
-  pub later : p.departure < s
-  pub inside : s < length lo
-  pub low : p.arrival ≤ curve_of up s

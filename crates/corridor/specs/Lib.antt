@@ -2,3 +2,4 @@ pub mod Corridor
 pub mod Curves
 pub mod Funnels
 pub mod Laws
+pub mod Scans

@@ -1,25 +1,30 @@
 //! The slopes that a line may have, kept as a range while a scan goes on.
 
 ghost use Rattle.std.specs.Prelude.{ℕ, ◌<◌, MatchBool};
-ghost use Rattle.corridor.specs.Funnels.{Admits, AtMost, Exceeds, Fits, Over, Under};
 
 use curve::Point;
 
 /// A fraction, rise over run; 1 over 0 is steeper than every slope.
-#[derive(Clone, Copy)]
+#[derive(Clone, Copy, Debug)]
 pub struct Slope {
     pub rise: u32,
     pub run: u32,
 }
 
 /// The slopes from `lower` on and below `upper`.
-#[derive(Clone, Copy)]
+#[derive(Clone, Copy, Debug)]
 pub struct Funnel {
     pub lower: Slope,
     pub upper: Slope,
+    pub ghost positive: { 0 < lower.run },
 }
 
 impl Slope {
+    ghost use Rattle.corridor.specs.Funnels.{AtMost, Exceeds, Over, Under};
+
+    // No `PartialOrd`: it wants an equality by products beside it, since 1 over 2 is 2 over 4, and a type without
+    // 0 over 0, which is neither over nor under any slope; all for this one test.
+
     /// Whether this slope is `other` or flatter: told by products, which two factors of 32 bits keep within 64.
     pub fn at_most(self, other: Slope) -> bool
         ensures at_most_or_exceeds { MatchBool result (AtMost self other) (Exceeds self other) }
@@ -48,9 +53,10 @@ impl Slope {
 }
 
 impl Funnel {
+    ghost use Rattle.corridor.specs.Funnels.{Admits, Fits};
+
     /// Every slope.
     pub fn open() -> Funnel
-        ensures positive { 0 < result.lower.run }
         ensures admits_all { (n m : ℕ) → 0 < m → Admits result n m }
     {
         Funnel {
@@ -61,8 +67,7 @@ impl Funnel {
 
     /// The slopes that both admit.
     pub fn meet(self, other: Funnel) -> Funnel
-        requires { (0 < self.lower.run) × ((0 < other.lower.run) × (0 < other.upper.run)) }
-        ensures positive { 0 < result.lower.run }
+        requires { 0 < other.upper.run }
         ensures admits_both { (n m : ℕ) → 0 < m → Admits result n m → Admits self n m × Admits other n m }
         ensures admits_each { (n m : ℕ) → 0 < m → Admits self n m → Admits other n m → Admits result n m }
     {
@@ -95,8 +100,7 @@ impl Funnel {
 
     /// Whether no slope is left.
     pub fn is_empty(self) -> bool
-        requires { 0 < self.lower.run }
-        ensures none_if_empty { MatchBool result ((n m : ℕ) → Admits self n m → ⊥) (Unit {0}) }
+        ensures none_or_lowest { MatchBool result ((n m : ℕ) → Admits self n m → ⊥) (Admits self self.lower.rise self.lower.run) }
     {
         self.upper.at_most(self.lower)
     }

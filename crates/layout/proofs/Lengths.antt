@@ -13,6 +13,3 @@ line_length node p =
     let g = field p.departure 44 in
     let h = field p.arrival 13 in
     omega (arith, length_push ((f ++ g) ++ h) 10, length-append (f ++ g) h, length-append f g)
-
-pub line_digits : (node : ℕ) (p : Point) → length (line_text node p) ≡ length (decimal node) + length (decimal p.departure) + length (decimal p.arrival) + 4
-line_digits node p = omega (arith, line_length node p, field_length node 44, field_length p.departure 44, field_length p.arrival 13)

@@ -1,18 +1,8 @@
--- The labels of a flat sheet: each row has a count, and then pairs of a departure and an arrival.
-use Rattle.std.specs.Prelude.{ℕ, ◌+◌, ◌*◌, ◌<◌, ◌≤◌, List, map, length, take, drop, slice_index, slice_index_or}
+-- The labels of a flat sheet, row by row.
+use Rattle.std.specs.Prelude.{ℕ, ◌*◌, ◌<◌, ◌≤◌, List, map, length, take, drop, slice_index, slice_index_or}
 use Rattle.curve.specs.declared.points.Point.{Point}
+use Rattle.rows.specs.Rows.{points}
 use Rattle.std.specs.List.{range_with_len}
-
--- the k-th point of a row
-abbrev pub point_at : List ℕ → ℕ → Point
-point_at row k = record { departure = slice_index row (2 * k + 1); arrival = slice_index row (2 * k + 2) }
-
--- its first k points
-abbrev pub points_to : List ℕ → ℕ → List Point
-points_to row k = map (point_at row) (range_with_len 0 k)
-
-abbrev pub points : List ℕ → List Point
-points row = points_to row (slice_index row 0)
 
 -- the v-th row
 abbrev pub row_of : List ℕ → ℕ → ℕ → List ℕ

@@ -16,6 +16,10 @@ flat (p ∷ ps) = p.departure ∷ (p.arrival ∷ flat ps)
 unfoldable pub laid_out : ℕ → List Point → List ℕ
 laid_out P ps = length ps ∷ (flat ps ++ replicate (2 * P - 2 * length ps) 0)
 
+-- a departure and its arrival, as a point
+abbrev pub point_of : List ℕ → Point
+point_of pair = record { departure = slice_index pair 0; arrival = slice_index pair 1 }
+
 -- the first c pairs of numbers, as points
 unfoldable pub pairs : ℕ → List ℕ → List Point
 pairs zero xs = []

@@ -2,10 +2,31 @@
 
 #![tactic(auto)]
 
-ghost use Rattle.std.specs.Prelude.{◌≡◌, ℕ, ◌+◌, ◌*◌, ◌^◌, ◌<◌, ◌≤◌, List, length, take, drop, slice_index};
-ghost use Rattle.rows.specs.Rows.{laid_out, points, width};
+// Numbers and no structs: the rows of a sheet are memory that is lent as numbers, in this layout.
+
+ghost use Rattle.std.specs.Prelude.{◌≡◌, ℕ, ◌+◌, ◌*◌, ◌^◌, ◌<◌, ◌≤◌, List, map, length, take, drop, slice_index, slice_index_or};
+ghost use Rattle.curve.specs.Curve.{no_point};
+ghost use Rattle.rows.specs.Rows.{laid_out, point_of, points, width};
 
 use curve::Point;
+
+/// The points of a row, each as its departure and its arrival.
+pub fn pairs_of(row: &[u32]) -> &[[u32; 2]]
+    requires whole { width (slice_index row.now 0) ≤ length row.now }
+    ensures pairs_are_points { map point_of result.now ≡ points row.now }
+    ensures counted { length result.now ≡ slice_index row.now 0 }
+{
+    let (pairs, _) = row[1..].as_chunks::<2>();
+    &pairs[..row[0] as usize]
+}
+
+/// The point of a departure and an arrival.
+pub fn point_of(pair: &[u32; 2]) -> Point
+    ensures { result ≡ point_of pair.now }
+{
+    let [departure, arrival] = *pair;
+    Point { departure, arrival }
+}
 
 /// Reads a row's points into the first places of `out`, and says how many they are.
 pub fn read_row(row: &[u32], out: &mut [Point]) -> usize
@@ -15,14 +36,11 @@ pub fn read_row(row: &[u32], out: &mut [Point]) -> usize
     ensures label_read { take result out.new ≡ points row.now }
     ensures rest_kept { drop result out.new ≡ drop result out.old }
 {
-    let count = row[0] as usize;
-    for i in 0..count {
-        out[i] = Point {
-            departure: row[2 * i + 1],
-            arrival: row[2 * i + 2],
-        };
+    let pairs = pairs_of(row);
+    for (index, pair) in pairs.iter().enumerate() {
+        out[index] = point_of(pair);
     }
-    count
+    pairs.len()
 }
 
 /// Lays a label out as a row: how many points, the points, and 0 in the places left.
@@ -32,13 +50,12 @@ pub fn write_row(label: &[Point], row: &mut [u32])
     ensures label_laid_out { (P : ℕ) → length row.old ≡ width P → row.new ≡ laid_out P label.now }
 {
     row[0] = label.len() as u32;
-    let mut at = 1;
-    for p in label {
-        row[at] = p.departure;
-        row[at + 1] = p.arrival;
-        at += 2;
+    // By index: `chunks_exact_mut` was tried, and a proof cannot name what it leaves in the row.
+    for (index, point) in label.iter().enumerate() {
+        row[2 * index + 1] = point.departure;
+        row[2 * index + 2] = point.arrival;
     }
-    row[at..].fill(0);
+    row[2 * label.len() + 1..].fill(0);
 }
 
 /// Whatever is laid out as a row is read back from it.

@@ -1,6 +1,6 @@
-use Rattle.std.proofs.Common.{◌≡◌, take, drop}
-use Rattle.rows.specs.Rows.{pairs}
+use Rattle.std.proofs.Common.{◌≡◌, map, take, drop}
+use Rattle.rows.specs.Rows.{point_of}
 use Rattle.rows.proofs.read_row.Given as goal
 
-abbrev pub invariant-loop-i : goal.invariant-loop-i
-invariant-loop-i l = (take l.i l.out ≡ pairs l.i (drop 1 l.row)) × (drop l.i l.out ≡ drop l.i l.initial.out)
+abbrev pub invariant-loop-index : goal.invariant-loop-index
+invariant-loop-index l = (take l.index l.out ≡ map point_of (take l.index l.pairs)) × (drop l.index l.out ≡ drop l.index l.initial.out)

@@ -2,5 +2,5 @@ use Rattle.std.proofs.Common.{◌≡◌, ◌+◌, ◌*◌, ◌∷◌, length, ta
 use Rattle.rows.specs.Rows.{flat}
 use Rattle.rows.proofs.write_row.Given as goal
 
-abbrev pub invariant-loop-p : goal.invariant-loop-p
-invariant-loop-p l = (l.at ≡ 2 * l.p-index + 1) × (take l.at l.row ≡ length l.label ∷ flat (take l.p-index l.label))
+abbrev pub invariant-loop-index : goal.invariant-loop-index
+invariant-loop-index l = take (2 * l.index + 1) l.row ≡ length l.label ∷ flat (take l.index l.label)
