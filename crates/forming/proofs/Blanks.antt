@@ -1,6 +1,6 @@
 -- Rows that hold a label or nothing, told by their numbers.
 use Rattle.std.proofs.Common.{◌≡◌, ℕ, zero, suc, ◌+◌, ◌-◌, ◌*◌, ◌<◌, ◌≤◌, List, [], ◌∷◌, ◌++◌, length, get_or, take, drop, replicate, sym, refl, ap, ◌∙◌, subst, one-add, arith}
-use Rattle.std.proofs.lemmas.List.{length-drop, length-replicate, drop-drop, drop_at, drop-replicate, get_or-replicate, ext_get_or, drop_more, take_rest}
+use Rattle.std.proofs.lemmas.List.{length-drop, length-replicate, drop-drop, drop_at, drop-replicate, get_or-replicate, ext_get_or, drop_more, take_rest, take-append-drop}
 use Rattle.curve.specs.declared.points.Point.{Point}
 use Rattle.rows.specs.Rows.{width, flat, pairs, points, laid_out, laid_back}
 use Rattle.runs.specs.Formed.{Label, Row, blank, holds}
@@ -102,32 +102,15 @@ row_tells P H limit xs (holds ps e fit lab) = subst (Tells P H limit) (sym e) (r
 
 -- an origin's row, by its numbers
 pub record Diagonal (H : ℕ) (xs : List ℕ) : Type 0 where
-  pub two : get_or xs 0 0 ≡ 2
-  pub leaves : get_or xs 1 0 ≡ 0
-  pub there : get_or xs 2 0 ≡ 0
-  pub last : get_or xs 3 0 ≡ H
-  pub end : get_or xs 4 0 ≡ H
+  pub first : take 5 xs ≡ 2 ∷ (0 ∷ (0 ∷ (H ∷ (H ∷ []))))
   pub rest : Zero (drop 5 xs)
 
 pub diagonal_tells : (P H : ℕ) (xs : List ℕ) → xs ≡ laid_out P (diagonal H) → Diagonal H xs
 unfolding laid_out
-diagonal_tells P H xs e = subst (Diagonal H) (sym e) (record {
-  two = refl;
-  leaves = refl;
-  there = refl;
-  last = refl;
-  end = refl;
-  rest = zero_replicate (2 * P - 4);
-})
+diagonal_tells P H xs e = subst (Diagonal H) (sym e) (record { first = refl; rest = zero_replicate (2 * P - 4) })
 
-pub diagonal_made : (P H : ℕ) (xs : List ℕ) → 2 ≤ P → length xs ≡ width P → Diagonal H xs → xs ≡ laid_out P (diagonal H)
+pub diagonal_made : (P H : ℕ) (xs : List ℕ) → length xs ≡ width P → Diagonal H xs → xs ≡ laid_out P (diagonal H)
 unfolding laid_out
-diagonal_made P H [] some wide d = absurd (omega (arith, wide))
-diagonal_made P H (a ∷ []) some wide d = absurd (omega (arith, wide))
-diagonal_made P H (a ∷ (b ∷ [])) some wide d = absurd (omega (arith, wide))
-diagonal_made P H (a ∷ (b ∷ (e ∷ []))) some wide d = absurd (omega (arith, wide))
-diagonal_made P H (a ∷ (b ∷ (e ∷ (f ∷ [])))) some wide d = absurd (omega (arith, wide))
-diagonal_made P H (a ∷ (b ∷ (e ∷ (f ∷ (g ∷ xs))))) some wide d =
-    let size : length xs ≡ 2 * P - 4 = omega arith in
-    let rest : xs ≡ replicate (2 * P - 4) 0 = d.rest ∙ ap (λ (k : ℕ). replicate {A = ℕ} k 0) size in
-    cc (d.two, d.leaves, d.there, d.last, d.end, rest)
+diagonal_made P H xs wide d =
+    let left : drop 5 xs ≡ replicate (2 * P - 4) 0 = d.rest ∙ ap (λ (k : ℕ). replicate {A = ℕ} k 0) (length-drop 5 xs ∙ omega arith) in
+    sym (take-append-drop 5 xs) ∙ ap (λ (ys : List ℕ). ys ++ drop 5 xs) d.first ∙ ap (λ (ys : List ℕ). 2 ∷ (0 ∷ (0 ∷ (H ∷ (H ∷ ys))))) left

@@ -1,13 +1,13 @@
 -- Which nodes have a label, told by the first number of their rows.
-use Rattle.std.proofs.Common.{◌≡◌, ℕ, zero, suc, ◌+◌, ◌<◌, false, cond, not, List, get_or, replicate, Some, None, Option, refl, ap, ◌∙◌, subst, inl, inr, add-one, arith}
-use Rattle.std.proofs.lemmas.Bool.{cond-true, cond-false, both_ways, cases_Bool, eq-eqb, ne_eqb}
+use Rattle.std.proofs.Common.{◌≡◌, ℕ, zero, suc, ◌+◌, ◌<◌, true, false, cond, List, replicate, Some, None, Option, refl, ap, ◌∙◌, subst, inl, inr, add-one, arith}
+use Rattle.std.proofs.lemmas.Bool.{cond-true, cond-false, both_ways, cases_Bool}
 use Rattle.rows.specs.Rows.{width, points, laid_back}
 use Rattle.runs.specs.declared.Figures.{Figures}
 use Rattle.runs.specs.Sheet.{row, any, labelled}
 use Rattle.runs.specs.Formed.{Row, blank, holds, labels_below, latest, WellFormed}
 use Rattle.runs.proofs.Keeping.{counts_some}
-use Rattle.runs.proofs.Rows.{any_points}
-use Rattle.runs.proofs.Labels.{blank_points, label_there}
+use Rattle.runs.specs.Once.{blank_points}
+use Rattle.runs.proofs.Reading.{label_there}
 use Rattle.forming.specs.Parts.{Marked, Holding, Begun}
 
 module _ (f : Figures) (rows : List ℕ) where
@@ -15,11 +15,11 @@ module _ (f : Figures) (rows : List ℕ) where
   labels_more k = rw (add-one k)
 
   -- one more node without a label, or with one
-  pub labels_kept : (k : ℕ) → get_or (row f.places rows k) 0 0 ≡ 0 → labels_below f rows (k + 1) ≡ labels_below f rows k
-  labels_kept k e = labels_more k ∙ ap (λ (n : ℕ). labels_below f rows k + n) (cond-false _ 1 0 (any_points (row f.places rows k) ∙ ap not (eq-eqb _ 0 e))) ∙ omega arith
+  pub labels_kept : (k : ℕ) → labelled f rows k ≡ false → labels_below f rows (k + 1) ≡ labels_below f rows k
+  labels_kept k e = labels_more k ∙ ap (λ (n : ℕ). labels_below f rows k + n) (cond-false _ 1 0 e) ∙ omega arith
 
-  pub labels_up : (k : ℕ) → (get_or (row f.places rows k) 0 0 ≡ 0 → ⊥) → labels_below f rows (k + 1) ≡ labels_below f rows k + 1
-  labels_up k e = labels_more k ∙ ap (λ (n : ℕ). labels_below f rows k + n) (cond-true _ 1 0 (any_points (row f.places rows k) ∙ ap not (ne_eqb _ 0 e)))
+  pub labels_up : (k : ℕ) → labelled f rows k ≡ true → labels_below f rows (k + 1) ≡ labels_below f rows k + 1
+  labels_up k e = labels_more k ∙ ap (λ (n : ℕ). labels_below f rows k + n) (cond-true _ 1 0 e)
 
   -- with no label below k, none of those nodes has one
   none_below : (k v : ℕ) → labels_below f rows k ≡ 0 → v < k → labelled f rows v ≡ false

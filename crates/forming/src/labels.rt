@@ -1,50 +1,23 @@
-ghost use Rattle.std.specs.Prelude.{◌≡◌, ◌<◌, ◌≤◌, length, MatchBool, slice_index, slice_index_or};
-ghost use Rattle.curve.specs.Curve.{climbing, no_point};
-ghost use Rattle.rows.specs.Rows.{points, width};
-ghost use Rattle.runs.specs.Formed.{Label};
+ghost use Rattle.std.specs.Prelude.{◌≡◌, ◌≤◌, length, map, MatchBool, slice_index};
+ghost use Rattle.curve.specs.Curve.{climbing};
 ghost use Rattle.forming.specs.Parts.{Prompt};
+ghost use Rattle.rows.specs.Rows.{point_of, points, width};
+ghost use Rattle.runs.specs.Formed.{Label};
 
-use curve::Point;
-
-/// The point at `index` of a row.
-pub fn point_at(row: &[u32], index: usize) -> Point
-    requires whole { width (slice_index row.now 0) ≤ length row.now }
-    requires inside { index < slice_index row.now 0 }
-    ensures point_read { result ≡ slice_index_or (points row.now) index no_point }
-{
-    Point {
-        departure: row[2 * index + 1],
-        arrival: row[2 * index + 2],
-    }
-}
+use rows::{pairs_of, point_of};
 
 /// Whether departures rise from point to point, and arrivals never fall.
-fn is_climbing(row: &[u32]) -> bool
-    requires { width (slice_index row.now 0) ≤ length row.now }
-    ensures climbs_or_not { result ≡ climbing (points row.now) }
+fn is_climbing(pairs: &[[u32; 2]]) -> bool
+    ensures climbs_or_not { result ≡ climbing (map point_of pairs.now) }
 {
-    for i in 1..row[0] as usize {
-        let from = point_at(row, i - 1);
-        let to = point_at(row, i);
-        if to.departure <= from.departure || to.arrival < from.arrival {
-            return false;
-        }
-    }
-    true
+    pairs.is_sorted_by(|from, to| point_of(from).climbs_to(point_of(to)))
 }
 
 /// Whether no point arrives before it sets out, or after `limit`.
-fn is_prompt(row: &[u32], limit: u32) -> bool
-    requires { width (slice_index row.now 0) ≤ length row.now }
-    ensures prompt_or_not { MatchBool result (Prompt limit (points row.now)) (Prompt limit (points row.now) → ⊥) }
+fn is_prompt(pairs: &[[u32; 2]], limit: u32) -> bool
+    ensures prompt_or_not { MatchBool result (Prompt limit (map point_of pairs.now)) (Prompt limit (map point_of pairs.now) → ⊥) }
 {
-    for i in 0..row[0] as usize {
-        let point = point_at(row, i);
-        if point.arrival < point.departure || limit < point.arrival {
-            return false;
-        }
-    }
-    true
+    pairs.iter().all(|[departure, arrival]| departure <= arrival && *arrival <= limit)
 }
 
 /// Whether a row's points are a label over the departures from 0 to `window`.
@@ -52,12 +25,9 @@ pub fn is_label(row: &[u32], window: u32, limit: u32) -> bool
     requires { width (slice_index row.now 0) ≤ length row.now }
     ensures label_or_not { MatchBool result (Label window limit (points row.now)) (Label window limit (points row.now) → ⊥) }
 {
-    let count = row[0] as usize;
-    if count < 2
-        || point_at(row, 0).departure != 0
-        || point_at(row, count - 1).departure != window
-    {
+    let pairs = pairs_of(row);
+    let [first, .., last] = pairs else {
         return false;
-    }
-    is_climbing(row) && is_prompt(row, limit)
+    };
+    first[0] == 0 && last[0] == window && is_climbing(pairs) && is_prompt(pairs, limit)
 }

@@ -1,38 +1,33 @@
-ghost use Rattle.std.specs.Prelude.{◌≡◌, ◌*◌, ◌≤◌, length, MatchBool};
+ghost use Rattle.std.specs.Prelude.{◌≡◌, ◌≤◌, length, MatchBool};
 ghost use Rattle.forming.specs.Parts.{Begun, Holding, Marked};
-ghost use Rattle.rows.specs.Rows.{width};
-ghost use Rattle.runs.specs.Figured.{Right};
 ghost use Rattle.runs.specs.Formed.{WellFormed, labels_below};
 
 use super::row_forms::{is_origin_row, is_row};
-use runs::{Figures, row_of};
+use runs::{Heading, Labels};
 
 /// The most minutes that a label may gain over one road: 10,000 for the crossing and as many for the allowance.
 const MOST_MINUTES: u32 = 20_000;
 
+// A mark is a number and no `bool`: it stands in memory that is lent as numbers, where any other number is refused.
+
 /// Whether the marks of the roads are all 0 or 1.
-fn are_marks(figures: Figures, marks: &[u8]) -> bool
-    requires { figures.roads ≤ length marks.now }
-    ensures marked_or_not { MatchBool result (Marked figures marks.now) (Marked figures marks.now → ⊥) }
+fn are_marks(heading: Heading, marks: &[u8]) -> bool
+    requires { heading.figures.roads ≤ length marks.now }
+    ensures marked_or_not { MatchBool result (Marked heading.figures marks.now) (Marked heading.figures marks.now → ⊥) }
 {
-    for road in 0..figures.roads {
-        if marks[road as usize] > 1 {
-            return false;
-        }
-    }
-    true
+    marks[..heading.roads() as usize]
+        .iter()
+        .all(|mark| *mark <= 1)
 }
 
 /// How many nodes have a label.
-fn count_labels(figures: Figures, rows: &[u32]) -> u32
-    requires figures_right { Right figures }
-    requires room { figures.nodes * width figures.places ≤ length rows.now }
-    ensures labels_counted { result ≡ labels_below figures rows.now figures.nodes }
-    ensures at_most_all { result ≤ figures.nodes }
+fn count_labels(labels: &Labels<'_>) -> u32
+    ensures labels_counted { result ≡ labels_below labels.now.heading.figures labels.now.rows.now labels.now.heading.figures.nodes }
+    ensures at_most_all { result ≤ labels.now.heading.figures.nodes }
 {
     let mut count: u32 = 0;
-    for node in 0..figures.nodes {
-        if row_of(figures, rows, node)[0] != 0 {
+    for node in 0..labels.heading.nodes() {
+        if labels.has(node) {
             count += 1;
         }
     }
@@ -40,14 +35,11 @@ fn count_labels(figures: Figures, rows: &[u32]) -> u32
 }
 
 /// Whether every row holds a label with no arrival after `limit`, or nothing.
-fn are_rows(figures: Figures, rows: &[u32], limit: u32) -> bool
-    requires figures_right { Right figures }
-    requires room { figures.nodes * width figures.places ≤ length rows.now }
-    ensures rows_or_not { MatchBool result (Holding figures limit rows.now) (Holding figures limit rows.now → ⊥) }
+fn are_rows(labels: &Labels<'_>, limit: u32) -> bool
+    ensures rows_or_not { MatchBool result (Holding labels.now.heading.figures limit labels.now.rows.now) (Holding labels.now.heading.figures limit labels.now.rows.now → ⊥) }
 {
-    for node in 0..figures.nodes {
-        let row = row_of(figures, rows, node);
-        if !is_row(row, figures.places, figures.window, limit) {
+    for node in 0..labels.heading.nodes() {
+        if !is_row(labels.heading, labels.row(node), limit) {
             return false;
         }
     }
@@ -55,32 +47,25 @@ fn are_rows(figures: Figures, rows: &[u32], limit: u32) -> bool
 }
 
 /// Whether the origin has an origin's row; without an origin, whether there are no labels.
-fn begins(figures: Figures, rows: &[u32], labels: u32) -> bool
-    requires figures_right { Right figures }
-    requires room { figures.nodes * width figures.places ≤ length rows.now }
-    requires counted { labels ≡ labels_below figures rows.now figures.nodes }
-    ensures begun_or_not { MatchBool result (Begun figures rows.now figures.origin) (Begun figures rows.now figures.origin → ⊥) }
+fn begins(labels: &Labels<'_>, count: u32) -> bool
+    requires counted { count ≡ labels_below labels.now.heading.figures labels.now.rows.now labels.now.heading.figures.nodes }
+    ensures begun_or_not { MatchBool result (Begun labels.now.heading.figures labels.now.rows.now labels.now.heading.figures.origin) (Begun labels.now.heading.figures labels.now.rows.now labels.now.heading.figures.origin → ⊥) }
 {
-    match figures.origin {
-        Some(origin) => {
-            let row = row_of(figures, rows, origin);
-            is_origin_row(row, figures.places, figures.window)
-        }
-        None => labels == 0,
+    match labels.heading.origin() {
+        Some(origin) => is_origin_row(labels.heading, labels.row(origin)),
+        None => count == 0,
     }
 }
 
 /// Whether a sheet is well formed: its first rows and marks, one a node and one a road.
-pub fn is_well_formed(figures: Figures, rows: &[u32], marks: &[u8]) -> bool
-    requires figures_right { Right figures }
-    requires rows_room { figures.nodes * width figures.places ≤ length rows.now }
-    requires marks_room { figures.roads ≤ length marks.now }
-    ensures well_formed_or_not { MatchBool result (WellFormed figures rows.now marks.now) (WellFormed figures rows.now marks.now → ⊥) }
+pub fn is_well_formed(labels: &Labels<'_>, marks: &[u8]) -> bool
+    requires { labels.now.heading.figures.roads ≤ length marks.now }
+    ensures well_formed_or_not { MatchBool result (WellFormed labels.now.heading.figures labels.now.rows.now marks.now) (WellFormed labels.now.heading.figures labels.now.rows.now marks.now → ⊥) }
 {
-    let labels = count_labels(figures, rows);
-    let limit = figures.window + MOST_MINUTES * labels.saturating_sub(1);
-    if !are_marks(figures, marks) || !are_rows(figures, rows, limit) {
+    let count = count_labels(labels);
+    let limit = labels.heading.window() + MOST_MINUTES * count.saturating_sub(1);
+    if !are_marks(labels.heading, marks) || !are_rows(labels, limit) {
         return false;
     }
-    begins(figures, rows, labels)
+    begins(labels, count)
 }

@@ -78,7 +78,7 @@ module _ (net : Net) (laws : Lawful net) (f : Figures) (rows : List ℕ) (ready 
         let lab : label f rows' (net.head r) ≡ x.new = ap points x.rewritten.own ∙ laid_back f.places x.new in
         asked.low 0 (omega arith) ∙ sym (begins x.new rule) ∙ sym at_0 ∙ sym (ap (λ (ps : List Point). reads ps 0) lab)
 
-    pub relaxes_by : {L : Type 0} (w : Work L) (ms : List ℕ) (l l' : L) → w.puts l (net.head r) (get_or ls 0 0) l' → Relaxed w net (state f rows ms l) r (state f rows' ms l')
+    relaxes_by : {L : Type 0} (w : Work L) (ms : List ℕ) (l l' : L) → w.puts l (net.head r) (get_or ls 0 0) l' → Relaxed w net (state f rows ms l) r (state f rows' ms l')
     relaxes_by w ms l l' put = changed (record {
       needed = asked.needed;
       heading = refl;
@@ -86,6 +86,12 @@ module _ (net : Net) (laws : Lawful net) (f : Figures) (rows : List ℕ) (ready 
       replaced = replaces;
       put = subst (λ (k : ℕ). w.puts l (net.head r) k l') first_key put;
     })
+
+  -- the same, by the number that the code has for the head
+  pub relaxes_at : {L : Type 0} (w : Work L) (ms : List ℕ) (l l' : L) (rows' : List ℕ) (head : ℕ) → head ≡ net.head r → Relabelled f rows head ls us rows' → w.puts l head (get_or ls 0 0) l'
+      → Relaxed w net (state f rows ms l) r (state f rows' ms l')
+  relaxes_at w ms l l' rows' head is x put =
+      relaxes_by rows' (subst (λ (v : ℕ). Relabelled f rows v ls us rows') is x) w ms l l' (subst (λ (v : ℕ). w.puts l v (get_or ls 0 0) l') is put)
 
   pub fills_by : {L : Type 0} (ms : List ℕ) (l : L) (rows' : List ℕ) → ((ps : List Point) → curves.Label ls us ps → f.places < length ps) → rows' ≡ rows → Filled net (state f rows ms l) r (state f rows' ms l)
   fills_by {L} ms l rows' long same = record {

@@ -5,5 +5,5 @@
 mod sampling;
 mod step;
 
-pub use sampling::{has_label, tail_of};
+pub use sampling::tail_of;
 pub use step::relax;

@@ -1,46 +1,11 @@
-ghost use Rattle.std.specs.Prelude.{◌≡◌, ℕ, ◌+◌, ◌*◌, ◌<◌, ◌≤◌, min, true, length, MatchBool, slice_index};
+ghost use Rattle.std.specs.Prelude.{◌≡◌, ℕ, ◌+◌, ◌<◌, ◌≤◌, min, length, MatchBool, slice_index};
 ghost use Rattle.network.specs.Net.{Net};
-ghost use Rattle.rows.specs.Rows.{width};
-ghost use Rattle.runs.specs.Figured.{Right};
-ghost use Rattle.runs.specs.Formed.{Laid};
-ghost use Rattle.runs.specs.Ready.{Sampled};
-ghost use Rattle.runs.specs.Sheet.{allow, labelled};
+ghost use Rattle.runs.specs.Sheet.{allow};
 
-use curve::{Point, sample};
 use network::Network;
-use rows::read_row;
-use runs::{Figures, row_of};
+use runs::Heading;
 
-/// The longest window has this many departures.
-pub const DEPARTURES: usize = 1441;
-
-/// Writes what the label of a node reads at each departure.
-pub fn sample_label(figures: Figures, rows: &[u32], node: u32, out: &mut [u32])
-    requires right { Right figures }
-    requires room { figures.nodes * width figures.places ≤ length rows.now }
-    requires node { node < figures.nodes }
-    requires departures { length out.old ≡ figures.window + 1 }
-    requires laid { Laid figures rows.now }
-    requires labelled { labelled figures rows.now node ≡ true }
-    ensures each_departure_read { Sampled figures rows.now node out.new }
-{
-    let mut points = [Point {
-        departure: 0,
-        arrival: 0,
-    }; DEPARTURES];
-    let count = read_row(row_of(figures, rows, node), &mut points);
-    sample(&points[0..count], out);
-}
-
-/// Whether a node has a label.
-pub fn has_label(figures: Figures, rows: &[u32], node: u32) -> bool
-    requires right { Right figures }
-    requires room { figures.nodes * width figures.places ≤ length rows.now }
-    requires node { node < figures.nodes }
-    ensures whether_labelled { result ≡ labelled figures rows.now node }
-{
-    row_of(figures, rows, node)[0] != 0
-}
+// The two ends of a road are two questions to a network, and each function here is one line over its own.
 
 /// The node at which a road begins.
 pub fn tail_of<N: Network>(net: &N, road: u32) -> u32
@@ -59,12 +24,11 @@ pub fn head_of<N: Network>(net: &N, road: u32) -> u32
 }
 
 /// The minutes by which a label may be late over a road.
-pub fn allowance<N: Network>(net: &N, figures: Figures, road: u32) -> u32
-    requires right { Right figures }
+pub fn allowance<N: Network>(net: &N, heading: Heading, road: u32) -> u32
     requires road { road < (N.Network.means net.now).roads }
-    ensures allowance_is { result ≡ allow (N.Network.means net.now) figures road }
+    ensures allowance_is { result ≡ allow (N.Network.means net.now) heading.figures road }
 {
-    figures.allowance * net.least(road).unwrap() / 10_000
+    heading.allowance() * net.least(road).unwrap() / 10_000
 }
 
 /// Turns arrivals at a road's tail into arrivals at its head, and writes these with `late` minutes more beside them.
@@ -76,10 +40,9 @@ pub fn cross_each<N: Network>(net: &N, road: u32, late: u32, lo: &mut [u32], up:
     ensures crossed { (t : ℕ) → t < length lo.old → slice_index lo.new t ≡ (N.Network.means net.now).cross road (slice_index lo.old t) }
     ensures late_beside { (t : ℕ) → t < length lo.old → slice_index up.new t ≡ (N.Network.means net.now).cross road (slice_index lo.old t) + late }
 {
-    for t in 0..lo.len() {
-        let arrival = net.cross(road, lo[t]).unwrap();
-        lo[t] = arrival;
-        up[t] = arrival + late;
+    for (t, arrival) in lo.iter_mut().enumerate() {
+        *arrival = net.cross(road, *arrival).unwrap();
+        up[t] = *arrival + late;
     }
 }
 
@@ -88,12 +51,7 @@ pub fn is_within(label: &[u32], bound: &[u32]) -> bool
     requires same { length bound.now ≡ length label.now }
     ensures nowhere_later { MatchBool result ((t : ℕ) → t < length label.now → slice_index label.now t ≤ slice_index bound.now t) ((t : ℕ) × (t < length label.now) × (slice_index bound.now t < slice_index label.now t)) }
 {
-    for t in 0..label.len() {
-        if label[t] > bound[t] {
-            return false;
-        }
-    }
-    true
+    label.iter().zip(bound).all(|(label, bound)| label <= bound)
 }
 
 /// Lowers a bound to a label wherever the label is earlier.
@@ -101,7 +59,7 @@ pub fn lower(bound: &mut [u32], label: &[u32])
     requires same { length bound.old ≡ length label.now }
     ensures earlier_of_both { (t : ℕ) → t < length label.now → slice_index bound.new t ≡ min (slice_index label.now t) (slice_index bound.old t) }
 {
-    for t in 0..label.len() {
-        bound[t] = label[t].min(bound[t]);
+    for (t, bound) in bound.iter_mut().enumerate() {
+        *bound = label[t].min(*bound);
     }
 }

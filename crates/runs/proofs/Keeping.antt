@@ -14,7 +14,8 @@ use Rattle.runs.specs.Figured.{Right}
 use Rattle.runs.specs.Sheet.{row, any, diagonal, label, labelled, at, allow, over, lo, up, Within}
 use Rattle.runs.specs.Formed.{Label, Row, blank, holds, labels_below, latest, Laid}
 use Rattle.runs.specs.Turns.{Replaced}
-use Rattle.runs.proofs.Labels.{label_high, label_low, label_mono, on_time, blank_points, row_holds}
+use Rattle.runs.specs.Once.{blank_points}
+use Rattle.runs.proofs.Reading.{label_high, label_low, label_mono, on_time, row_holds}
 
 pub clash : {b : Bool} → b ≡ true → b ≡ false → ⊥
 clash p q = let z : ◌≡◌ {A = ℕ} 0 1 = ap (λ (x : Bool). cond x 0 1) (sym p ∙ q) in omega arith

@@ -1,5 +1,7 @@
+pub mod Granted
 pub mod Keeping
-pub mod Labels
+pub mod Parts
+pub mod Reading
 pub mod Rows
 pub mod Settling
 pub mod Steps

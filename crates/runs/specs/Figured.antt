@@ -20,6 +20,10 @@ placed (Some o) n = nat_lt o n
 abbrev pub right : Figures → Bool
 right f = sized f && (ruled f.window f.places f.allowance && placed f.origin f.nodes)
 
+-- the same figures with the origin v
+abbrev pub with_origin : Figures → ℕ → Figures
+with_origin f v = record { nodes = f.nodes; roads = f.roads; window = f.window; places = f.places; allowance = f.allowance; origin = Some v }
+
 -- the same, as facts
 pub record Right (f : Figures) : Type 0 where
   pub some : 1 ≤ f.nodes

@@ -6,7 +6,7 @@ use Rattle.worklist.specs.Work.{Work, Orderly}
 use Rattle.runs.specs.Settling.{Even}
 use Rattle.runs.specs.Sheet.{State, row, any}
 use Rattle.runs.proofs.Keeping.{clash, same}
-use Rattle.runs.proofs.Labels.{blank_points}
+use Rattle.runs.specs.Once.{blank_points}
 use Rattle.sheet.specs.Restarts.{Restarted}
 
 pub restarted_even : {L : Type 0} (w : Work L) (orderly : Orderly w) (net : Net) (laws : Lawful net) (s : State L) (v : ℕ) (s' : State L) → net.nodes ≡ s.heading.nodes → s'.heading.places ≡ s.heading.places → Restarted w s v s' → Even w net s'

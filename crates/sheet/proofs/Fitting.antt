@@ -9,7 +9,8 @@ use Rattle.runs.specs.declared.Figures.{Figures}
 use Rattle.runs.specs.Figured.{Right}
 use Rattle.runs.specs.Sheet.{State, state}
 use Rattle.sheet.specs.Judging.{Roomy, Agree, Fit}
-use Rattle.sheet.specs.Restarts.{with_origin, Restarted}
+use Rattle.runs.specs.Figured.{with_origin}
+use Rattle.sheet.specs.Restarts.{Restarted}
 use Rattle.sheet.specs.Rules.{Ruled, blank_rows, blank_marks}
 use Rattle.sheet.proofs.Restarting.{cleared_size, cleared_formed, anew_formed}
 

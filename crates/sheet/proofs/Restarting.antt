@@ -1,5 +1,5 @@
 -- Rows that were cleared, and those that begin anew.
-use Rattle.std.proofs.Common.{◌≡◌, ℕ, ◌-◌, ◌*◌, ◌<◌, ◌≤◌, List, ◌++◌, length, get_or, take, drop, replicate, Some, None, Ok, Err, Result, sym, ap, ◌∙◌, subst, inl, inr, arith, MatchResult}
+use Rattle.std.proofs.Common.{◌≡◌, ℕ, ◌-◌, ◌*◌, ◌<◌, ◌≤◌, List, ◌++◌, length, get_or, take, drop, replicate, Some, None, sym, ap, ◌∙◌, subst, inl, inr, arith}
 use Rattle.std.proofs.lemmas.List.{length-append, length-replicate, length-drop, drop-append-le, drop-replicate, take-append-le, take-replicate, drop_at, get_or_append_left, get_or-replicate}
 use Rattle.std.proofs.lemmas.Bool.{cases_eq}
 use Rattle.rows.specs.Rows.{width, laid_out}
@@ -9,15 +9,10 @@ use Rattle.runs.specs.Figured.{Right}
 use Rattle.runs.specs.Sheet.{state, row, diagonal}
 use Rattle.runs.specs.Formed.{Row, blank, holds, WellFormed, latest}
 use Rattle.runs.specs.Ready.{Rewritten}
-use Rattle.runs.proofs.Labels.{diagonal_label}
+use Rattle.runs.proofs.Reading.{diagonal_label}
 use Rattle.runs.proofs.Rows.{room_for}
 use Rattle.sheet.specs.Restarts.{Restarted}
 use Rattle.sheet.specs.Rules.{blank_rows, blank_marks}
-
--- a call that could not be refused did what it was asked for
-pub granted : {A E : Type 0} (P : Type 0) (Q : E → Type 0) (r : Result A E) → MatchResult r (λ _. P) Q → ((e : E) → Q e → ⊥) → P
-granted P Q (Ok x) h no_fault = h
-granted P Q (Err e) h no_fault = absurd (no_fault e h)
 
 -- k zeros, then what was there
 abbrev cleared : ℕ → List ℕ → List ℕ

@@ -1,13 +1,9 @@
 -- Sheets that begin anew with an origin.
-use Rattle.std.specs.Prelude.{◌≡◌, ℕ, ◌*◌, ◌<◌, length, drop, replicate, Some, ◌≢◌}
+use Rattle.std.specs.Prelude.{◌≡◌, ℕ, ◌*◌, ◌<◌, length, drop, replicate, ◌≢◌}
 use Rattle.rows.specs.Rows.{width, laid_out}
 use Rattle.worklist.specs.Work.{Work}
-use Rattle.runs.specs.declared.Figures.{Figures}
+use Rattle.runs.specs.Figured.{with_origin}
 use Rattle.runs.specs.Sheet.{State, row, diagonal}
-
--- the same figures with the origin v
-abbrev pub with_origin : Figures → ℕ → Figures
-with_origin f v = record { nodes = f.nodes; roads = f.roads; window = f.window; places = f.places; allowance = f.allowance; origin = Some v }
 
 -- v has an origin's row, every other node a blank one, and v alone waits, by key 0; memory past the rows is kept
 pub record Restarted {L : Type 0} (w : Work L) (s : State L) (v : ℕ) (s' : State L) : Type 0 where

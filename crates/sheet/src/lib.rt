@@ -2,16 +2,14 @@
 
 #![tactic(auto)]
 
-mod asks;
-mod heading;
 mod judging;
 mod origins;
 mod rules;
 
-pub use heading::Heading;
 pub use judging::judge;
 pub use origins::{origin, restart};
 pub use rules::rule;
+pub use runs::Heading;
 
 #[cfg(test)]
 mod tests;

@@ -1,7 +1,6 @@
 ghost use Rattle.std.specs.Prelude.{◌≡◌, ℕ, ◌*◌, ◌<◌, ◌≤◌, List, length, OnErr, OnOk};
 ghost use Rattle.refusal.specs.Refusals.{refusal};
 ghost use Rattle.rows.specs.Rows.{width};
-ghost use Rattle.runs.specs.Figured.{Right};
 ghost use Rattle.runs.specs.Ready.{Rewritten};
 ghost use Rattle.runs.specs.Settling.{Even};
 ghost use Rattle.runs.specs.Sheet.{diagonal, state};
@@ -10,47 +9,42 @@ ghost use Rattle.sheet.specs.Judging.{Fit, JudgedThen, unplaced};
 ghost use Rattle.sheet.specs.Restarts.{Originated, Restarted};
 ghost use Rattle.sheet.specs.Rules.{blank_rows};
 
-use super::heading::Heading;
 use super::judging::judge;
 use super::rules::clear_rows;
 use curve::Point;
 use network::Network;
 use refusal::Refusal;
 use rows::write_row;
-use runs::{Figures, row_start, row_width};
+use runs::Heading;
 use worklist::WorkList;
 
 /// Clears all rows, and gives `node` an origin's label: who sets out at a minute is there at that minute.
-fn begin_rows(figures: Figures, rows: &mut [u32], node: u32)
-    requires figures_right { Right figures }
-    requires room { figures.nodes * width figures.places ≤ length rows.old }
-    requires node_below { node < figures.nodes }
-    ensures origin_alone { Rewritten figures (blank_rows figures rows.old) node (diagonal figures.window) rows.new }
+fn begin_rows(heading: Heading, rows: &mut [u32], node: u32)
+    requires room { heading.figures.nodes * width heading.figures.places ≤ length rows.old }
+    requires node_below { node < heading.figures.nodes }
+    ensures origin_alone { Rewritten heading.figures (blank_rows heading.figures rows.old) node (diagonal heading.figures.window) rows.new }
 {
-    clear_rows(figures, rows);
-    let first = Point {
-        departure: 0,
-        arrival: 0,
-    };
+    clear_rows(heading, rows);
+    let window = heading.window();
     let last = Point {
-        departure: figures.window,
-        arrival: figures.window,
+        departure: window,
+        arrival: window,
     };
-    let start = row_start(figures, node);
-    write_row(&[first, last], &mut rows[start..start + row_width(figures)]);
+    let start = heading.row_start(node);
+    write_row(
+        &[Point::default(), last],
+        &mut rows[start..start + heading.row_width()],
+    );
 }
 
 /// Begins a sheet anew with `node` as its origin: gives it the only label, and puts it alone on the list.
 pub fn restart<L: WorkList>(heading: &Heading, rows: &mut [u32], list: &mut L, node: u32)
     requires room { heading.now.figures.nodes * width heading.now.figures.places ≤ length rows.old }
     requires node_below { node < heading.now.figures.nodes }
-    requires list_ok { L.WorkList.ok list.old }
-    ensures list_stays_ok { L.WorkList.ok list.new }
     ensures restarted { (f : FiguresT) (ms ns : List ℕ) → Restarted L.WorkList.work (state heading.now.figures rows.old ms list.old) node (state f rows.new ns list.new) }
 {
-    let figures = heading.figures();
-    begin_rows(figures, rows, node);
-    let _cleared = list.clear(figures.nodes);
+    begin_rows(*heading, rows, node);
+    let _cleared = list.clear(heading.figures().nodes);
     let _put = list.put(node, 0);
 }
 
@@ -64,17 +58,13 @@ pub fn origin<N: Network, L: WorkList>(
     list: &mut L,
     node: u32,
 ) -> Result<(), Refusal>
-    requires { L.WorkList.ok list.old }
-    ensures list_stays_ok { L.WorkList.ok list.new }
     ensures refused_as_listed { JudgedThen (N.Network.means net.now) heading.old.figures rows.old marks.now (L.WorkList.bound list.old) (unplaced heading.old.figures node) (refusal result) }
     ensures originated { OnOk result (Originated L.WorkList.work (state heading.old.figures rows.old marks.now list.old) node (state heading.new.figures rows.new marks.now list.new)) }
     ensures fits { OnOk result (Fit (N.Network.means net.now) heading.new.figures rows.new marks.now (L.WorkList.bound list.new)) }
     ensures begins_even { OnOk result (Even L.WorkList.work (N.Network.means net.now) (state heading.new.figures rows.new marks.now list.new)) }
     ensures refused_keeps_all { OnErr result ((heading.new ≡ heading.old) × (rows.new ≡ rows.old) × (list.new ≡ list.old)) }
 {
-    if let Err(refusal) = judge(net, heading, rows, marks, list) {
-        return Err(refusal);
-    }
+    judge(net, heading, rows, marks, list)?;
     if node >= heading.nodes() {
         return Err(Refusal::Range);
     }

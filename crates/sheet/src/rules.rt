@@ -1,16 +1,14 @@
 ghost use Rattle.std.specs.Prelude.{◌≡◌, ◌*◌, ◌≤◌, length, IfOk, OnErr};
 ghost use Rattle.refusal.specs.Refusals.{or_else, refusal};
 ghost use Rattle.rows.specs.Rows.{width};
-ghost use Rattle.runs.specs.Figured.{Right, ruled};
+ghost use Rattle.runs.specs.Figured.{ruled};
 ghost use Rattle.runs.specs.Sheet.{state};
 ghost use Rattle.sheet.specs.Judging.{Fit};
 ghost use Rattle.sheet.specs.Rules.{Ruled, blank_marks, blank_rows, cramped, plain, unruly};
 
-use super::heading::Heading;
-use super::judging::size_of_rows;
 use network::Network;
 use refusal::Refusal;
-use runs::Figures;
+use runs::{Figures, Heading};
 use worklist::WorkList;
 
 /// The last departure that a sheet may have: the minutes of a day.
@@ -23,28 +21,25 @@ pub const LARGEST_ALLOWANCE: u32 = 10_000;
 fn is_ruled(window: u32, places: u32, allowance: u32) -> bool
     ensures ruled_or_not { result ≡ ruled window places allowance }
 {
-    window >= 1
-        && window <= LAST_WINDOW
-        && places >= 2
-        && places <= window + 1
+    (1..=LAST_WINDOW).contains(&window)
+        && (2..=window + 1).contains(&places)
         && allowance <= LARGEST_ALLOWANCE
 }
 
 /// Makes every number of the sheet's rows 0.
-pub fn clear_rows(figures: Figures, rows: &mut [u32])
-    requires figures_right { Right figures }
-    requires room { figures.nodes * width figures.places ≤ length rows.old }
-    ensures rows_cleared { rows.new ≡ blank_rows figures rows.old }
+pub fn clear_rows(heading: Heading, rows: &mut [u32])
+    requires { heading.figures.nodes * width heading.figures.places ≤ length rows.old }
+    ensures rows_cleared { rows.new ≡ blank_rows heading.figures rows.old }
 {
-    rows[0..size_of_rows(figures)].fill(0);
+    rows[..heading.size_of_rows()].fill(0);
 }
 
 /// Makes every mark of the sheet's roads 0.
-fn clear_marks(figures: Figures, marks: &mut [u8])
-    requires { figures.roads ≤ length marks.old }
-    ensures marks_cleared { marks.new ≡ blank_marks figures marks.old }
+fn clear_marks(heading: Heading, marks: &mut [u8])
+    requires { heading.figures.roads ≤ length marks.old }
+    ensures marks_cleared { marks.new ≡ blank_marks heading.figures marks.old }
 {
-    marks[0..figures.roads as usize].fill(0);
+    marks[..heading.roads() as usize].fill(0);
 }
 
 /// Rules a sheet for a network: clears its rows, its marks and the list, and answers a heading with no origin. Memory past
@@ -58,8 +53,6 @@ pub fn rule<N: Network, L: WorkList>(
     places: u32,
     allowance: u32,
 ) -> Result<Heading, Refusal>
-    requires { L.WorkList.ok list.old }
-    ensures list_stays_ok { L.WorkList.ok list.new }
     ensures refused_as_listed { refusal result ≡ or_else (unruly window places allowance) (cramped (N.Network.means net.now).nodes (N.Network.means net.now).roads places rows.old marks.old) }
     ensures ruled { IfOk result (λ h. Ruled L.WorkList.work (plain (N.Network.means net.now) window places allowance) rows.old marks.old list.old (state h.figures rows.new marks.new list.new)) }
     ensures fits { IfOk result (λ h. Fit (N.Network.means net.now) h.figures rows.new marks.new (L.WorkList.bound list.new)) }
@@ -68,20 +61,19 @@ pub fn rule<N: Network, L: WorkList>(
     if !is_ruled(window, places, allowance) {
         return Err(Refusal::Figures);
     }
-    let figures = Figures {
+    let heading = Heading::new(Figures {
         nodes: net.nodes(),
         roads: net.roads(),
         window,
         places,
         allowance,
         origin: None,
-    };
-    let heading = Heading::new(figures);
-    if rows.len() < size_of_rows(figures) || marks.len() < figures.roads as usize {
+    });
+    if rows.len() < heading.size_of_rows() || marks.len() < heading.figures().roads as usize {
         return Err(Refusal::Short);
     }
-    clear_rows(figures, rows);
-    clear_marks(figures, marks);
-    let _cleared = list.clear(figures.nodes);
+    clear_rows(heading, rows);
+    clear_marks(heading, marks);
+    let _cleared = list.clear(heading.figures().nodes);
     Ok(heading)
 }

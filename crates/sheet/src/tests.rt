@@ -21,8 +21,7 @@ const POINTS: [Point; 1] = [Point {
 
 #[test]
 fn a_day_is_the_longest_window(rt: HostRuntime) -> Result<(), Fail> {
-    Tabulated::check(2, &ROADS, &POINTS)?;
-    let net = Tabulated::new(2, &ROADS, &POINTS);
+    let net = Tabulated::try_new(2, &ROADS, &POINTS)?;
     let mut rows = [7; 12];
     let mut marks = [7; 2];
     let mut list = Fifo::new();
@@ -41,8 +40,7 @@ fn a_day_is_the_longest_window(rt: HostRuntime) -> Result<(), Fail> {
 
 #[test]
 fn the_first_fault_is_named(rt: HostRuntime) -> Result<(), Fail> {
-    Tabulated::check(2, &ROADS, &POINTS)?;
-    let net = Tabulated::new(2, &ROADS, &POINTS);
+    let net = Tabulated::try_new(2, &ROADS, &POINTS)?;
     let mut rows = [7; 10];
     let mut marks = [7; 1];
     let mut list = Fifo::new();
@@ -72,8 +70,7 @@ fn the_first_fault_is_named(rt: HostRuntime) -> Result<(), Fail> {
 
 #[test]
 fn an_origin_has_the_only_label(rt: HostRuntime) -> Result<(), Fail> {
-    Tabulated::check(2, &ROADS, &POINTS)?;
-    let net = Tabulated::new(2, &ROADS, &POINTS);
+    let net = Tabulated::try_new(2, &ROADS, &POINTS)?;
     let mut rows = [7; 12];
     let mut marks = [7; 1];
     let mut list = Fifo::new();

@@ -1,13 +1,13 @@
 -- One road of a turn, and whole turns.
 use Rattle.std.proofs.Common.{◌≡◌, ℕ, ◌<◌, ◌≤◌, true, false, List, get_or, Some, Ok, Err, Result, sym, refl, ap, ◌∙◌, subst, MatchResult}
+use Rattle.std.proofs.lemmas.Result.{MatchResult-weaker}
 use Rattle.network.specs.Net.{Net, Lawful}
 use Rattle.worklist.specs.Work.{Work, Idle}
-use Rattle.runs.specs.declared.Figures.{Figures}
 use Rattle.runs.specs.declared.Outcome.TheVariants.{Settled}
 use Rattle.runs.specs.Ready.{Ready}
-use Rattle.runs.specs.Sheet.{State, state, labelled, at}
+use Rattle.runs.specs.Sheet.{State, with_list, labelled, at}
 use Rattle.runs.specs.Turns.{Due, Relaxed, Full, Filled, Passed, passes, relaxes, Turned, idles, relaxed, Stopped, Turns, Worked, settles}
-use Rattle.runs.proofs.Steps.{relaxed_ready, relaxed_labels}
+use Rattle.runs.proofs.Steps.{relaxed_labels}
 use Rattle.turns.specs.Passing.{Steps, Blocked}
 
 module _ {L : Type 0} (w : Work L) (net : Net) (s : State L) (u r : ℕ) (road : r < net.roads) where
@@ -17,53 +17,37 @@ module _ {L : Type 0} (w : Work L) (net : Net) (s : State L) (u r : ℕ) (road :
   pub skips_away : (x : ℕ) → x ≡ net.tail r → (x ≡ u → ⊥) → Steps w net u r s s
   skips_away x is ne = λ s₀ p. passes p road (λ d. ne (is ∙ d.leaves))
 
-module _ {L : Type 0} (w : Work L) (net : Net) (laws : Lawful net) (f : Figures) (rows rows' ms : List ℕ) (l l' : L) (u r : ℕ) (ready : Ready net f rows) (road : r < net.roads) (unmarked : get_or ms r 0 ≡ 0) (leaves : net.tail r ≡ u) (some : labelled f rows u ≡ true) where
-  due : Due net (state f rows ms l) u r
-  due = record { road = road; leaves = leaves; unmarked = unmarked }
+module _ {L : Type 0} (w : Work L) (net : Net) (laws : Lawful net) (s s' : State L) (u r : ℕ) (ready : Ready net s.heading s.rows) (road : r < net.roads) (unmarked : get_or s.marks r 0 ≡ 0) (leaves : net.tail r ≡ u) (some : labelled s.heading s.rows u ≡ true) where
+  -- what relaxing the road did, as a step of the turn
+  pub passed_by : {A E : Type 0} (a : Result A E) → MatchResult a (λ _. Relaxed w net s r s') (λ _. Filled net s r s') → MatchResult a (λ _. Steps w net u r s s') (λ _. Blocked net u r s s')
+  passed_by a y =
+      let due : Due net s u r = record { road = road; leaves = leaves; unmarked = unmarked } in
+      MatchResult-weaker a y (λ _ y. λ s₀ p. relaxes p due y) (λ _ y. record { due = due; filled = y })
 
-  from : labelled f rows (net.tail r) ≡ true
-  from = subst (λ (v : ℕ). labelled f rows v ≡ true) (sym leaves) some
+  pub labelled_still : {A E : Type 0} (a : Result A E) → MatchResult a (λ _. Relaxed w net s r s') (λ _. Filled net s r s') → labelled s.heading s'.rows u ≡ true
+  labelled_still (Ok x) y = relaxed_labels w net laws s s' r ready road (subst (λ (v : ℕ). labelled s.heading s.rows v ≡ true) (sym leaves) some) u some y
+  labelled_still (Err x) y = subst (λ (rs : List ℕ). labelled s.heading rs u ≡ true) (sym (ap (λ (x : State L). x.rows) y.same)) some
 
-  -- what relaxing the road did, as a step of the turn; what it keeps
-  pub record Step {A E : Type 0} (a : Result A E) : Type 0 where
-    pub stays_ready : Ready net f rows'
-    pub stays_labelled : labelled f rows' u ≡ true
-    pub passed : MatchResult a (λ _. Steps w net u r (state f rows ms l) (state f rows' ms l')) (λ _. Blocked net u r (state f rows ms l) (state f rows' ms l'))
+module _ {L : Type 0} (w : Work L) (net : Net) (s : State L) (l : L) (u : ℕ) (took : w.takes s.list (Some u) l) where
+  pub idle_turn : labelled s.heading s.rows u ≡ false → Turned w net s (with_list s l)
+  idle_turn bare = idles u l took bare refl
 
-  pub step : {A E : Type 0} (a : Result A E) → MatchResult a (λ _. Relaxed w net (state f rows ms l) r (state f rows' ms l')) (λ _. Filled net (state f rows ms l) r (state f rows' ms l')) → Step a
-  step (Ok x) y = record {
-    stays_ready = relaxed_ready w net laws f rows rows' ms l l' r ready road from y;
-    stays_labelled = relaxed_labels w net laws f rows rows' ms l l' r ready road from u some y;
-    passed = λ s₀ p. relaxes p due y;
-  }
-  step (Err x) y =
-      let same : rows' ≡ rows = ap (λ (s : State L). s.rows) y.same in
-      record {
-        stays_ready = subst (Ready net f) (sym same) ready;
-        stays_labelled = subst (λ (rs : List ℕ). labelled f rs u ≡ true) (sym same) some;
-        passed = record { due = due; filled = y };
-      }
+  module _ (some : labelled s.heading s.rows u ≡ true) (s₁ : State L) (r : ℕ) (p : Passed w net u (with_list s l) r s₁) where
+    pub whole_turn : r ≡ net.roads → Turned w net s s₁
+    whole_turn e = relaxed u l took some (subst (λ (i : ℕ). Passed w net u (with_list s l) i s₁) e p)
 
-module _ {L : Type 0} (w : Work L) (net : Net) (f : Figures) (rows marks : List ℕ) (l l₁ : L) (u : ℕ) (took : w.takes l (Some u) l₁) where
-  pub idle_turn : labelled f rows u ≡ false → Turned w net (state f rows marks l) (state f rows marks l₁)
-  idle_turn bare = idles u l₁ took bare refl
-
-  module _ (some : labelled f rows u ≡ true) (rows' : List ℕ) (l' : L) (r : ℕ) (p : Passed w net u (state f rows marks l₁) r (state f rows' marks l')) where
-    pub whole_turn : r ≡ net.roads → Turned w net (state f rows marks l) (state f rows' marks l')
-    whole_turn e = relaxed u l₁ took some (subst (λ (i : ℕ). Passed w net u (state f rows marks l₁) i (state f rows' marks l')) e p)
-
-    pub stopped_turn : (rows'' : List ℕ) (l'' : L) (key : ℕ) (back : L) → Blocked net u r (state f rows' marks l') (state f rows'' marks l'') → key ≡ at f rows'' u 0 → w.puts l'' u key back → Stopped w net (state f rows marks l) r (state f rows'' marks back)
-    stopped_turn rows'' l'' key back b is put = record {
+    pub stopped_turn : (s₂ : State L) (key : ℕ) (back : L) → Blocked net u r s₁ s₂ → key ≡ at s₂.heading s₂.rows u 0 → w.puts s₂.list u key back → Stopped w net s r (with_list s₂ back)
+    stopped_turn s₂ key back b is put = record {
       node = u;
-      left = l₁;
+      left = l;
       taken = took;
       some = some;
-      last = state f rows'' marks l'';
-      passed = subst (Passed w net u (state f rows marks l₁) r) (sym b.filled.same) p;
+      last = s₂;
+      passed = subst (Passed w net u (with_list s l) r) (sym b.filled.same) p;
       due = subst (λ (x : State L). Due net x u r) (sym b.filled.same) b.due;
       long = subst (λ (x : State L). Full net x r) (sym b.filled.same) b.filled.full_at;
       back = back;
-      put = subst (λ (k : ℕ). w.puts l'' u k back) is put;
+      put = subst (λ (k : ℕ). w.puts s₂.list u k back) is put;
       is = refl;
     }
 

@@ -1,34 +1,28 @@
+use Rattle.std.proofs.Common.{ℕ, List, [], ◌∷◌, sym, ap, ◌∙◌}
+use Rattle.std.proofs.lemmas.Bool.Decides.{Decides-eqb}
+use Rattle.std.proofs.lemmas.Bool.{both_ways}
+use Rattle.std.proofs.lemmas.Slice.Eq.{slice_eq-Decides}
 use Rattle.forming.proofs.Blanks.{zero_part, zero_part⁻, diagonal_tells, diagonal_made}
-use Rattle.forming.proofs.Whens.{when_map}
+use Rattle.forming.proofs.Whens.{when_map, when_not}
 use Rattle.forming.proofs.row_forms.is_origin_row.Goals as goal
-use Rattle.forming.proofs.row_forms.is_origin_row.Goals.{then-row-ne2-via-then-row-ne2, then-row-ne2-via-else-row-ne2+then-row-ne0, then-row-ne2-via-else-row-ne2+else-row-ne0+then-row-ne0-2, then-row-ne2-via-else-row-ne2+else-row-ne0+else-row-ne0-2+then-row-window, then-row-ne2-via-else-row-ne2+else-row-ne0+else-row-ne0-2+else-row-window+then-row-window-2}
 
-pub returns-then-row-ne2 : goal.returns-then-row-ne2
-returns-then-row-ne2 c = record {
-  diagonal_or_not = λ e.
-      let tells = diagonal_tells c.args.places c.args.window c.args.row.now e in
-      elim c.then-row-ne2.branch [
-        | then-row-ne2-via-then-row-ne2 w ↦ w.if-row-ne2.true tells.two
-        | then-row-ne2-via-else-row-ne2+then-row-ne0 w ↦ w.if-row-ne0.true tells.leaves
-        | then-row-ne2-via-else-row-ne2+else-row-ne0+then-row-ne0-2 w ↦ w.if-row-ne0-2.true tells.there
-        | then-row-ne2-via-else-row-ne2+else-row-ne0+else-row-ne0-2+then-row-window w ↦ w.if-row-window.true tells.last
-        | then-row-ne2-via-else-row-ne2+else-row-ne0+else-row-ne0-2+else-row-window+then-row-window-2 w ↦ w.if-row-window-2.true tells.end
-      ];
-}
+-- the first numbers of an origin's row, with its last departure
+abbrev front : ℕ → List ℕ
+front w = 2 ∷ (0 ∷ (0 ∷ (w ∷ (w ∷ []))))
 
-pub returns : goal.returns
-returns c =
+pub returns-then-eq : goal.returns-then-eq
+returns-then-eq c =
     let row = c.args.row.now in
+    let first = (slice_eq-Decides Decides-eqb _ _ c.eq.result c.eq.ensures).0 c.if-eq.true ∙ ap front c.window-window.ensures.window_held in
     record {
       diagonal_or_not = when_map c.is_zero.result
-          (λ z. diagonal_made c.args.places c.args.window row c.requires.two c.requires.whole (record {
-            two = c.if-row-ne2.false;
-            leaves = c.if-row-ne0.false;
-            there = c.if-row-ne0-2.false;
-            last = c.if-row-window.false;
-            end = c.if-row-window-2.false;
-            rest = zero_part row 5 z;
-          }))
+          (λ z. diagonal_made c.args.heading.figures.places c.args.heading.figures.window row c.requires.whole (record { first = first; rest = zero_part row 5 z }))
           (λ none e. none (zero_part⁻ row 5 (diagonal_tells _ _ row e).rest))
           c.is_zero.ensures.zero_or_not;
     }
+
+pub returns-else-eq : goal.returns-else-eq
+returns-else-eq c = record {
+  diagonal_or_not = when_not _ _ c.eq.result c.if-eq.false
+      (λ e. both_ways c.eq.result c.if-eq.false ((slice_eq-Decides Decides-eqb _ _ c.eq.result c.eq.ensures).1 ((diagonal_tells _ _ c.args.row.now e).first ∙ ap front (sym c.window-window.ensures.window_held))));
+}

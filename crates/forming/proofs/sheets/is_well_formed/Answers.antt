@@ -8,14 +8,14 @@ use Rattle.forming.proofs.sheets.is_well_formed.Goals as goal
 use Rattle.forming.proofs.sheets.is_well_formed.Goals.{then-not-are_marks-via-then-not-are_marks, then-not-are_marks-via-else-not-are_marks+then-not-are_rows}
 
 -- the limit that is computed from the labels counted
-limit_is : (f : Figures) (rows : List ℕ) (labels less : ℕ) → labels ≡ labels_below f rows f.nodes → less ≡ labels - 1 → f.window + 20000 * less ≡ latest f rows
-limit_is f rows labels less counted lowered = omega arith
+limit_is : (f : Figures) (rows : List ℕ) (window labels less : ℕ) → window ≡ f.window → labels ≡ labels_below f rows f.nodes → less ≡ labels - 1 → window + 20000 * less ≡ latest f rows
+limit_is f rows window labels less held counted lowered = omega arith
 
 pub returns-then-not-are_marks : goal.returns-then-not-are_marks
 returns-then-not-are_marks c =
-    let f = c.args.figures in
-    let rows = c.args.rows.now in
-    let limit = limit_is f rows _ _ c.count_labels-labels.ensures.labels_counted c.saturating_sub.ensures in
+    let f = c.args.labels.now.heading.figures in
+    let rows = c.args.labels.now.rows.now in
+    let limit = limit_is f rows _ _ _ c.window.ensures.window_held c.count_labels-count.ensures.labels_counted c.saturating_sub.ensures in
     record {
       well_formed_or_not = λ h. elim c.then-not-are_marks.branch [
         | then-not-are_marks-via-then-not-are_marks w ↦ w.if-not-are_marks.ensures.marked_or_not h.marked
@@ -25,10 +25,10 @@ returns-then-not-are_marks c =
 
 pub returns : goal.returns
 returns c =
-    let f = c.args.figures in
-    let rows = c.args.rows.now in
+    let f = c.args.labels.now.heading.figures in
+    let rows = c.args.labels.now.rows.now in
     let marks = c.args.marks.now in
-    let limit = limit_is f rows _ _ c.count_labels-labels.ensures.labels_counted c.saturating_sub.ensures in
+    let limit = limit_is f rows _ _ _ c.window.ensures.window_held c.count_labels-count.ensures.labels_counted c.saturating_sub.ensures in
     record {
       well_formed_or_not = when_map c.begins.result
           (λ b. formed f rows marks c.if-not-are_marks.ensures.marked_or_not (subst (λ (x : ℕ). Holding f x rows) limit c.if-not-are_rows.ensures.rows_or_not) b)

@@ -1,35 +1,25 @@
-use Rattle.std.proofs.Common.{sym, refl, ◌∙◌, arith}
-use Rattle.network.specs.Laws.{lawful_of}
-use Rattle.turns.proofs.Passing.{skips_marked, skips_away, step}
+use Rattle.std.proofs.Common.{sym, ◌∙◌, arith}
+use Rattle.runs.specs.Parts.{told}
+use Rattle.turns.proofs.Passing.{skips_marked, skips_away, passed_by, labelled_still}
 use Rattle.turns.proofs.turning.pass.Goals as goal
+use Rattle.turns.proofs.turning.pass.Goals.{then-sheet-road-ne0-via-then-sheet-road-ne0, then-sheet-road-ne0-via-else-sheet-road-ne0+then-tail_of-node}
 
-pub returns-then-marks-road-ne0 : goal.returns-then-marks-road-ne0
-returns-then-marks-road-ne0 g c = record {
-  stays_ok = c.requires.list.1;
-  bound_kept = refl;
-  stays_ready = c.requires.ready;
-  stays_labelled = c.requires.labelled;
-  passed_or_full = skips_marked _ _ _ _ _ (omega (arith, c.requires.ready.roads, c.requires.road)) c.if-marks-road-ne0.true;
-}
+pub returns-then-sheet-road-ne0-clause-passed_or_full : goal.returns-then-sheet-road-ne0-clause-passed_or_full
+returns-then-sheet-road-ne0-clause-passed_or_full g c =
+    let s = c.args.sheet.now in
+    elim c.then-sheet-road-ne0.branch [
+      | then-sheet-road-ne0-via-then-sheet-road-ne0 w ↦ skips_marked _ _ _ _ _ (omega (arith, s.ready.roads, c.requires.road)) w.if-sheet-road-ne0.true
+      | then-sheet-road-ne0-via-else-sheet-road-ne0+then-tail_of-node w ↦ skips_away _ _ _ _ _ (omega (arith, s.ready.roads, c.requires.road)) w.tail_of.result w.tail_of.ensures.tail_is w.if-tail_of-node.true
+    ]
 
-pub returns-then-tail_of-node : goal.returns-then-tail_of-node
-returns-then-tail_of-node g c = record {
-  stays_ok = c.requires.list.1;
-  bound_kept = refl;
-  stays_ready = c.requires.ready;
-  stays_labelled = c.requires.labelled;
-  passed_or_full = skips_away _ _ _ _ _ (omega (arith, c.requires.ready.roads, c.requires.road)) c.tail_of.result c.tail_of.ensures.tail_is c.if-tail_of-node.true;
-}
+pub returns-clause-stays_labelled : goal.returns-clause-stays_labelled
+returns-clause-stays_labelled g c =
+    let s = c.args.sheet.now in
+    labelled_still g.L.WorkList.work _ (g.met.N.Network.lawful s.net.now) (told s) (told c.relax.new.sheet) c.args.node c.args.road s.ready (omega (arith, s.ready.roads, c.requires.road)) c.if-sheet-road-ne0.false
+    (sym c.tail_of.ensures.tail_is ∙ c.if-tail_of-node.false) c.requires.labelled c.relax.result c.relax.ensures.relaxed_or_full
 
-pub returns : goal.returns
-returns g c =
-    let laws = lawful_of g.N.Network c.args.net.now in
-    let s = step g.L.WorkList.work _ laws c.args.figures c.args.rows.now c.relax.new.rows c.args.marks.now _ _ c.args.node c.args.road c.requires.ready (omega (arith, c.requires.ready.roads, c.requires.road)) c.if-marks-road-ne0.false
-    (sym c.tail_of.ensures.tail_is ∙ c.if-tail_of-node.false) c.requires.labelled c.relax.result (c.relax.ensures.relaxed_or_full c.args.marks.now) in
-    record {
-      stays_ok = c.relax.ensures.stays_ok;
-      bound_kept = c.relax.ensures.bound_kept;
-      stays_ready = s.stays_ready;
-      stays_labelled = s.stays_labelled;
-      passed_or_full = s.passed;
-    }
+pub returns-clause-passed_or_full : goal.returns-clause-passed_or_full
+returns-clause-passed_or_full g c =
+    let s = c.args.sheet.now in
+    passed_by g.L.WorkList.work _ (g.met.N.Network.lawful s.net.now) (told s) (told c.relax.new.sheet) c.args.node c.args.road s.ready (omega (arith, s.ready.roads, c.requires.road)) c.if-sheet-road-ne0.false
+    (sym c.tail_of.ensures.tail_is ∙ c.if-tail_of-node.false) c.requires.labelled c.relax.result c.relax.ensures.relaxed_or_full

@@ -1,45 +1,27 @@
-use Rattle.std.proofs.Common.{◌≡◌, ℕ, ◌≤◌, Bool, true, cond, length, is_some, Some, None, Option, sym, refl, ap, ◌∙◌, subst, arith}
-use Rattle.runs.specs.declared.Figures.{Figures}
-use Rattle.runs.specs.Figured.{right_tells}
+use Rattle.std.proofs.Common.{ap, ◌∙◌, subst, rules}
+use Rattle.runs.specs.declared.heading.Heading.{Heading}
 use Rattle.runs.specs.Ready.{Ready}
-use Rattle.runs.specs.Sheet.{state}
-use Rattle.runs.specs.Turns.{Worked}
+use Rattle.runs.specs.Figured.{right_tells}
 use Rattle.runs.proofs.Settling.{work_settles}
-use Rattle.network.specs.Laws.{lawful_of}
-use Rattle.sheet.proofs.Judgements.{fit, judged_last}
-use Rattle.turns.specs.Working.{unstarted}
+use Rattle.sheet.proofs.Judgements.{fit}
 use Rattle.turns.proofs.Readying.{readied, fitted}
 use Rattle.turns.proofs.working.work.Goals as goal
 
--- a sheet with an origin
-started : (o : Option ℕ) → is_some o ≡ true → None ≡ unstarted o
-started (Some o) e = refl
-started None e = let z : ◌≡◌ {A = ℕ} 0 1 = ap (λ (b : Bool). cond b 1 0) e in absurd (omega arith)
+pub invariant_of-sheet : goal.invariant_of-sheet
+invariant_of-sheet g c =
+    let parts = fit c.in_ok-judge.ensures.judged in
+    record { ready = readied (right_tells c.args.heading.now.figures c.args.heading.now.lawful) parts; marked = parts.roomy.marks; bound = parts.agree.bound }
 
-pub turns-requires : goal.turns-requires
-turns-requires g c =
-    let f = c.args.heading.now.figures in
-    let parts = fit c.in_default.ensures.judged in
-    let e = sym c.figures.ensures.figures_held in
-    record {
-      ready = subst (λ (q : Figures). Ready (g.N.Network.means c.args.net.now) q c.args.rows.now) e (readied (right_tells f c.args.heading.now.lawful) parts);
-      marked = subst (λ (q : Figures). q.roads ≤ length c.args.marks.now) e parts.roomy.marks;
-      list = (parts.agree.bound ∙ ap (λ (q : Figures). q.nodes) e, c.requires);
-    }
+pub returns-clause-settles : goal.returns-clause-settles
+returns-clause-settles g c =
+    let h = c.args.heading.now in
+    let parts = fit c.in_ok-judge.ensures.judged in
+    work_settles g.L.WorkList.work g.met.L.WorkList.orderly _ (g.met.N.Network.lawful c.args.net.now) _ c.args.count c.turns.result.0 c.turns.result.1 _ (readied (right_tells h.figures h.lawful) parts) (search rules)
 
-pub returns : goal.returns
-returns g c =
-    let f = c.args.heading.now.figures in
-    let net = g.N.Network.means c.args.net.now in
-    let judged = c.in_default.ensures.judged in
-    let e = c.figures.ensures.figures_held in
-    let turned = c.turns.ensures in
-    let worked = subst (λ (q : Figures). Worked g.L.WorkList.work net (state q c.args.rows.now c.args.marks.now c.args.list.now) c.args.count c.turns.result.0 c.turns.result.1 (state q c.turns.new.rows c.args.marks.now c.turns.new.list)) e turned.worked in
-    record {
-      list_stays_ok = turned.stays_ok;
-      refused_as_listed = judged_last _ _ judged (started f.origin (ap (λ (o : Option ℕ). is_some o) (sym c.origin.ensures.origin_held) ∙ c.if-is_none.ensures));
-      worked = worked;
-      settles = work_settles g.L.WorkList.work g.L.WorkList.orderly net (lawful_of g.N.Network c.args.net.now) _ c.args.count c.turns.result.0 c.turns.result.1 _ (readied (right_tells f c.args.heading.now.lawful) (fit judged)) worked;
-      fits = fitted (fit judged) turned.bound_kept (subst (λ (q : Figures). Ready net q c.turns.new.rows) e turned.stays_ready);
-      refused_keeps_all = tt;
-    }
+pub returns-clause-fits : goal.returns-clause-fits
+returns-clause-fits g c =
+    let t = c.turns.new.sheet in
+    let same = c.turns.ensures.same_parts in
+    let ready = subst (λ (h : Heading). Ready (g.N.Network.means c.args.net.now) h.figures t.rows.now) same.heading (subst (λ (n : _). Ready (g.N.Network.means n) t.heading.figures t.rows.now) same.net t.ready) in
+    let bound = t.bound ∙ ap (λ (h : Heading). h.figures.nodes) same.heading in
+    fitted (fit c.in_ok-judge.ensures.judged) (search (rules, bound)) (search (rules, ready))

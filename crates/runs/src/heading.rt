@@ -1,7 +1,7 @@
-ghost use Rattle.runs.specs.Figured.{right};
 ghost use Rattle.std.specs.Prelude.{◌≡◌, true};
+ghost use Rattle.runs.specs.Figured.{right};
 
-use runs::Figures;
+use crate::Figures;
 
 /// What heads a sheet. There is none whose figures are out of range, or whose origin is not one of its nodes.
 #[derive(Clone, Copy, PartialEq, Eq, Debug)]

@@ -1,8 +1,7 @@
 ghost use Rattle.std.specs.Prelude.{◌≡◌, ◌<◌};
-ghost use Rattle.sheet.specs.Restarts.{with_origin};
+ghost use Rattle.runs.specs.Figured.{with_origin};
 
-use super::heading::Heading;
-use runs::Figures;
+use crate::{Figures, Heading};
 
 impl Heading {
     /// How many nodes the sheet has rows for.

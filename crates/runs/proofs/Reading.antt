@@ -1,13 +1,16 @@
 -- What a label and a row read.
-use Rattle.std.proofs.Common.{◌≡◌, ℕ, zero, suc, ◌+◌, ◌-◌, ◌*◌, ◌<◌, ◌≤◌, Bool, true, false, cond, List, [], ◌∷◌, length, get_or, replicate, sym, refl, ap, ◌∙◌, subst, suc-le-suc, le_trans, one-add, arith, lt-ltb, le-leb}
+use Rattle.std.proofs.Common.{◌≡◌, ℕ, zero, suc, ◌+◌, ◌-◌, ◌<◌, ◌≤◌, Bool, true, false, cond, List, [], ◌∷◌, length, get_or, sym, refl, ap, ◌∙◌, subst, suc-le-suc, le_trans, arith, lt-ltb, le-leb}
 use Rattle.curve.specs.declared.points.Point.{Point}
 use Rattle.curve.specs.Curve.{no_point, reads, climbing}
 use Rattle.curve.specs.Runs.{Over, reads_low, reads_high, reads_mono, reads_past, reads_between, rises_at}
 use Rattle.curve.specs.Lines.{between_start}
-use Rattle.rows.specs.Rows.{width, points, pairs, laid_back}
+use Rattle.rows.specs.Rows.{points, laid_back}
 use Rattle.runs.specs.declared.Figures.{Figures}
-use Rattle.runs.specs.Sheet.{any, diagonal, label, labelled, row}
+use Rattle.runs.specs.declared.heading.Heading.{Heading}
+use Rattle.runs.specs.Sheet.{any, at, diagonal, label, labelled, row}
 use Rattle.runs.specs.Formed.{Label, Row, blank, holds, latest, Laid}
+use Rattle.runs.specs.Once.{blank_points}
+use Rattle.runs.proofs.Rows.{count_points}
 
 -- each point takes at least l, from index to index
 over_of : (l : ℕ) (ps : List Point) → ((i : ℕ) → i < length ps → (get_or ps i no_point).departure + l ≤ (get_or ps i no_point).arrival) → Over l ps
@@ -84,11 +87,6 @@ on_time H t some =
     let high = reads_high (diagonal H) t 0 lab.climbs (omega arith, omega arith, (omega arith, omega arith, tt)) (omega arith) in
     omega arith
 
--- a row without a label has no points
-pub blank_points : (P : ℕ) → points (replicate (width P) 0) ≡ []
-unfolding points pairs
-blank_points P = rw (one-add (2 * P))
-
 -- what a row holds, by its points
 pub row_holds : (P H limit : ℕ) (xs : List ℕ) → Row P H limit xs → any (points xs) ≡ true → Label H limit (points xs) × (length (points xs) ≤ P)
 row_holds P H limit xs (blank e) some = absurd (clash (ap (λ (ys : List ℕ). any (points ys)) e ∙ ap any (blank_points P)) some)
@@ -102,3 +100,25 @@ row_holds P H limit xs (holds ps e fit lab) some =
 -- what a node with a label has in its row
 pub laid_label : (f : Figures) (rows : List ℕ) → Laid f rows → (v : ℕ) → v < f.nodes → labelled f rows v ≡ true → Label f.window (latest f rows) (label f rows v) × (length (label f rows v) ≤ f.places)
 laid_label f rows laid v lt some = row_holds f.places f.window (latest f rows) (row f.places rows v) (laid.holding v lt) some
+
+-- the same, by the row itself
+pub record Shows (f : Figures) (rows xs : List ℕ) : Type 0 where
+  pub some : 2 ≤ get_or xs 0 0
+  pub few : get_or xs 0 0 ≤ f.places
+  pub holds_label : Label f.window (latest f rows) (points xs)
+
+pub row_shows : (f : Figures) (rows : List ℕ) → Laid f rows → (v : ℕ) → v < f.nodes → labelled f rows v ≡ true → (xs : List ℕ) → xs ≡ row f.places rows v → Shows f rows xs
+row_shows f rows laid v lt some xs is =
+    let held = laid_label f rows laid v lt some in
+    subst (Shows f rows) (sym is) (record {
+      some = omega (arith, count_points (row f.places rows v), held.0.two);
+      few = omega (arith, count_points (row f.places rows v), held.1);
+      holds_label = held.0;
+    })
+
+-- labels that hold the same heading and rows tell the same
+pub labelled_as : (h k : Heading) (rows cells : List ℕ) (v : ℕ) → h ≡ k → rows ≡ cells → labelled h.figures rows v ≡ labelled k.figures cells v
+labelled_as h k rows cells v e r = ap (λ (x : Heading). labelled x.figures rows v) e ∙ ap (λ (x : List ℕ). labelled k.figures x v) r
+
+pub read_as : (h k : Heading) (rows cells : List ℕ) (v t : ℕ) → h ≡ k → rows ≡ cells → at h.figures rows v t ≡ at k.figures cells v t
+read_as h k rows cells v t e r = ap (λ (x : Heading). at x.figures rows v t) e ∙ ap (λ (x : List ℕ). at k.figures x v t) r
