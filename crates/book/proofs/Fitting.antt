@@ -7,7 +7,7 @@ use Rattle.runs.specs.declared.Figures.{Figures}
 use Rattle.runs.specs.Figured.{Right}
 use Rattle.runs.specs.Formed.{Row, blank, holds, latest}
 use Rattle.runs.specs.Sheet.{row}
-use Rattle.runs.proofs.Labels.{blank_points}
+use Rattle.runs.specs.Once.{blank_points}
 use Rattle.runs.proofs.Rows.{count_points, row_length}
 use Rattle.sheet.specs.Judging.{Fit}
 

@@ -7,11 +7,11 @@ ghost use Rattle.numeral.specs.Texts.{written};
 ghost use Rattle.refusal.specs.Refusals.{refusal};
 ghost use Rattle.std.specs.Prelude.{◌≡◌, length, IfOk, OnErr};
 
-use layout::{text_length, write_text};
+use layout::Cells;
 use network::Network;
 use refusal::Refusal;
-use runs::row_width;
-use sheet::{Heading, judge};
+use runs::Heading;
+use sheet::judge;
 use worklist::WorkList;
 
 /// Prints a settled sheet at the front of the buffer, and answers how long its text is; bytes after the text are kept.
@@ -25,25 +25,25 @@ pub fn print<N: Network, L: WorkList>(
     list: &L,
     buffer: &mut [u8],
 ) -> Result<usize, Refusal>
-    requires { L.WorkList.ok list.now }
     ensures refused_as_listed { Answered L.WorkList.work (N.Network.means net.now) heading.now.figures rows.now marks.now (L.WorkList.bound list.now) list.now buffer.old (refusal result) }
     ensures length_of_book { IfOk result (λ n. n ≡ length (book_of heading.now.figures rows.now)) }
     ensures book_printed { IfOk result (λ n. buffer.new ≡ written 0 (book_of heading.now.figures rows.now) buffer.old) }
     ensures refused_keeps_all { OnErr result (buffer.new ≡ buffer.old) }
 {
-    if let Err(refusal) = judge(net, heading, rows, marks, list) {
-        return Err(refusal);
-    }
+    judge(net, heading, rows, marks, list)?;
     if heading.origin().is_none() {
         return Err(Refusal::NoOrigin);
     }
     if !list.is_empty() {
         return Err(Refusal::Unsettled(None));
     }
-    let figures = heading.figures();
-    let width = row_width(figures);
-    if text_length(rows, width, figures.nodes) > buffer.len() {
+    let cells = Cells {
+        numbers: rows,
+        width: heading.row_width(),
+        nodes: heading.nodes(),
+    };
+    if cells.text_length() > buffer.len() {
         return Err(Refusal::Short);
     }
-    Ok(write_text(buffer, rows, width, figures.nodes))
+    Ok(cells.write_text(buffer))
 }

@@ -17,7 +17,7 @@ fn agrees(rt: &HostRuntime, name: &str) -> anyhow::Result<bool> {
     let input = fs::read(rt, format!(in heap; "{name}.in")?.as_str())?;
     let expected = fs::read(rt, format!(in heap; "{name}.out")?.as_str())?;
     let page = page_for(heap, &input)?;
-    Ok(page.text == expected)
+    Ok(page.as_bytes() == expected.as_slice())
 }
 
 fn main(rt: HostRuntime) -> anyhow::Result<()> {

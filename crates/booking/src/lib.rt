@@ -2,15 +2,21 @@
 
 #![tactic(auto)]
 
-ghost use Rattle.std.specs.Prelude.{◌≡◌, ◌<◌, ◌≤◌, length, IfOk, Err, string_bytes, MatchBool};
+ghost use Rattle.std.specs.Prelude.{◌≡◌, ◌<◌, ◌≤◌, length, IfOk, Err, string_bytes};
 ghost use Rattle.graph_file.specs.Loads.{answer_of, limits_of, load_of};
 ghost use Rattle.refusal.specs.declared.Refusal.{Refusal as RefusalT};
-ghost use Rattle.booking.specs.Pages.{NoBook, counted, refused_line, refused_text, too_long};
+ghost use Rattle.refusal.specs.Refusals.{refusal};
+ghost use Rattle.booking.specs.Pages.{BookOrRefusalLine, NoBook, refused_line, too_long, unsettled};
+
+mod failure;
+mod page;
 
 use book::print;
 use curve::Point;
+pub use failure::Failure;
 use graph_file::load;
 use network::{Network, Road, Tabulated};
+pub use page::{Page, RefusalLine};
 use refusal::{Line, Refusal};
 use runs::Outcome;
 use sheet::{origin, rule};
@@ -40,43 +46,20 @@ const ALLOWANCE: u32 = 100;
 /// The turns that the sheet is given to settle.
 const TURNS: u32 = 1_000_000;
 
-/// What stands in a table where nothing is loaded.
-const NO_ROAD: Road = Road {
-    tail: 0,
-    head: 0,
-    first: 0,
-    count: 0,
-};
-
-const NO_POINT: Point = Point {
-    departure: 0,
-    arrival: 0,
-};
-
 /// How many numbers the rows of all admitted nodes have.
 const NUMBERS: usize = 3136;
 
 /// No book is longer: a header of 24 bytes, and 34 bytes at most for each point.
 const LONGEST_BOOK: usize = 65_536;
 
-/// Why there is no book.
-#[derive(Clone, Copy, PartialEq, Eq, Debug)]
-pub enum Failure {
-    /// The input is refused.
-    Refused(Refusal),
-    /// No memory was left.
-    NoMemory,
-}
-
-impl From<Refusal> for Failure {
-    fn from(refusal: Refusal) -> Failure {
-        Failure::Refused(refusal)
-    }
-}
-
-impl From<AllocError> for Failure {
-    fn from(_error: AllocError) -> Failure {
-        Failure::NoMemory
+/// Refuses a sheet that work has not settled.
+fn check_settled(outcome: Outcome) -> Result<(), Refusal>
+    ensures { refusal result ≡ unsettled outcome }
+{
+    match outcome {
+        Outcome::Settled => Ok(()),
+        Outcome::Full(road) => Err(Refusal::Unsettled(Some(road))),
+        Outcome::More => Err(Refusal::Unsettled(None)),
     }
 }
 
@@ -90,11 +73,7 @@ fn print_settled<N: Network>(heap: Global, net: &N) -> Result<Vec<u8>, Failure> 
     )?;
     origin(net, &mut heading, &mut rows, &marks, &mut list, 0)?;
     let (_turns, outcome) = work(net, &heading, &mut rows, &marks, &mut list, TURNS)?;
-    match outcome {
-        Outcome::Settled => {}
-        Outcome::Full(road) => return Err(Failure::Refused(Refusal::Unsettled(Some(road)))),
-        Outcome::More => return Err(Failure::Refused(Refusal::Unsettled(None))),
-    }
+    check_settled(outcome)?;
     let mut text = vec![in heap; 0u8; LONGEST_BOOK]?;
     let length = print(net, &heading, &rows, &marks, &list, &mut text)?;
     text.truncate(length);
@@ -109,83 +88,28 @@ pub fn make_book(heap: Global, input: &[u8]) -> Result<Vec<u8>, Failure>
     if input.len() > MOST_BYTES {
         return Err(Failure::Refused(Refusal::Quota(Line { file: 0, line: 0 })));
     }
-    let Ok(mut roads) = vec![in heap; NO_ROAD; ROADS] else {
-        return Err(Failure::NoMemory);
-    };
-    let Ok(mut points) = vec![in heap; NO_POINT; POINTS] else {
-        return Err(Failure::NoMemory);
-    };
-    let loaded = match load(input, SPACING, NODES, &mut roads, &mut points) {
-        Ok(loaded) => loaded,
-        Err(refusal) => return Err(Failure::Refused(refusal)),
-    };
-    let table = &roads[0..loaded.roads as usize];
-    Tabulated::check(loaded.nodes, table, &points)?;
-    print_settled(heap, &Tabulated::new(loaded.nodes, table, &points))
+    let mut roads = vec![in heap; Road::default(); ROADS]?;
+    let mut points = vec![in heap; Point::default(); POINTS]?;
+    let loaded = load(input, SPACING, NODES, &mut roads, &mut points)?;
+    let table = &roads[..loaded.roads as usize];
+    let net = Tabulated::try_new(loaded.nodes, table, &points)?;
+    print_settled(heap, &net)
 }
 
-/// A road as the line counts it: from 1, and 0 where there is none.
-fn counted(road: Option<u32>) -> u64
-    ensures counted_from_one { result ≡ counted road }
-{
-    match road {
-        Some(road) => u64::from(road) + 1,
-        None => 0,
-    }
-}
-
-/// The line with these numbers.
-fn write_line(
-    heap: Global,
-    number: u32,
-    file: u32,
-    line: usize,
-    road: u64,
-) -> Result<String, AllocError>
-    ensures line_written { IfOk result (λ s. string_bytes s ≡ refused_text number file line road) }
-{
-    format!(in heap; "refused,{number},{file},{line},{road}\r\n")
-}
-
-/// The line that says why an input is refused: its number and places. Files, lines and roads count from 1, and 0 stands
-/// where there is none.
+/// The line that says why an input is refused.
 pub fn refusal_line(heap: Global, refusal: Refusal) -> Result<String, AllocError>
     ensures line_as_defined { IfOk result (λ s. string_bytes s ≡ refused_line refusal) }
 {
-    let places = refusal.places();
-    write_line(
-        heap,
-        refusal.number(),
-        places.file,
-        places.line,
-        counted(places.road),
-    )
-}
-
-/// What the program prints, and whether it is a book.
-#[derive(Drop)]
-pub struct Page {
-    pub text: Vec<u8>,
-    pub is_book: bool,
+    RefusalLine(refusal).to_string(heap)
 }
 
 /// The page for an input: its book, or the line that says why it is refused.
 pub fn page_for(heap: Global, input: &[u8]) -> Result<Page, AllocError>
-    ensures else_a_refusal_line { IfOk result (λ page. MatchBool page.is_book (Unit {0}) ((e : RefusalT) × (page.text.items ≡ refused_line e))) }
+    ensures else_a_refusal_line { IfOk result BookOrRefusalLine }
 {
     match make_book(heap, input) {
-        Ok(text) => Ok(Page {
-            text,
-            is_book: true,
-        }),
+        Ok(text) => Ok(Page::Book(text)),
+        Err(Failure::Refused(refusal)) => Ok(Page::Refused(refusal_line(heap, refusal)?)),
         Err(Failure::NoMemory) => Err(AllocError),
-        Err(Failure::Refused(refusal)) => {
-            let line = refusal_line(heap, refusal)?;
-            let text = Vec::from_slice(heap, line.as_bytes())?;
-            Ok(Page {
-                text,
-                is_book: false,
-            })
-        }
     }
 }

@@ -3,7 +3,7 @@
 #![tactic(auto)]
 
 use anyhow::anyhow;
-use booking::{MOST_BYTES, page_for};
+use booking::{MOST_BYTES, Page, page_for};
 use std::io::{Read, Write};
 
 fn main(rt: HostRuntime) -> anyhow::Result<()> {
@@ -13,10 +13,9 @@ fn main(rt: HostRuntime) -> anyhow::Result<()> {
         .take(MOST_BYTES as u64 + 1)
         .read_to_end(&mut input)?;
     let page = page_for(rt.alloc(), &input)?;
-    rt.stdout().write_all(&page.text)?;
-    if page.is_book {
-        Ok(())
-    } else {
-        Err(anyhow!("refused"))
+    rt.stdout().write_all(page.as_bytes())?;
+    match page {
+        Page::Book(_) => Ok(()),
+        Page::Refused(_) => Err(anyhow!("refused")),
     }
 }

@@ -85,7 +85,7 @@ pub const POINTS: [Point; 8] = [
 pub fn town() -> Tabulated<'static, 'static>
     ensures its_nodes { result.nodes ≡ 4 }
     ensures its_roads { result.roads.now ≡ town_roads }
-    ensures its_points { result.points.now ≡ town_points }
+    ensures its_points { result.entries.now ≡ town_points }
 {
     Tabulated::new(NODES, &ROADS, &POINTS)
 }

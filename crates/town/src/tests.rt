@@ -2,7 +2,7 @@
 
 ghost use Rattle.network.specs.Tables.{tabulated};
 ghost use Rattle.refusal.specs.Refusals.{number};
-ghost use Rattle.sheet.specs.Restarts.{with_origin};
+ghost use Rattle.runs.specs.Figured.{with_origin};
 ghost use Rattle.sheet.specs.Rules.{plain};
 ghost use Rattle.std.specs.Prelude.{◌≡◌, IfOk, MatchResult};
 
@@ -39,7 +39,7 @@ fn begin(
     list: &mut Fifo,
     places: u32,
 ) -> Result<Heading, Refusal>
-    ensures begun { IfOk result (λ h. h.figures ≡ with_origin (plain (tabulated net.now.nodes net.now.roads.now net.now.points.now) 60 places 1000) 0) }
+    ensures begun { IfOk result (λ h. h.figures ≡ with_origin (plain (tabulated net.now.nodes net.now.roads.now net.now.entries.now) 60 places 1000) 0) }
 {
     let mut heading = rule(net, rows, marks, list, WINDOW, places, ALLOWANCE)?;
     origin(net, &mut heading, rows, marks, list, ORIGIN)?;
