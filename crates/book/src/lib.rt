@@ -39,7 +39,7 @@ pub fn print<N: Network, L: WorkList>(
     }
     let cells = Cells {
         numbers: rows,
-        width: heading.row_width(),
+        width: heading.figures().row_width(),
         nodes: heading.nodes(),
     };
     if cells.text_length() > buffer.len() {

@@ -1,5 +1,6 @@
 -- From the corridor that the code has reckoned to the corridor of the rule.
-use Rattle.std.proofs.Common.{◌≡◌, ℕ, ◌+◌, ◌*◌, ◌<◌, ◌≤◌, Bool, true, false, cond, List, [], ◌∷◌, length, get_or, sym, refl, ap, ◌∙◌, subst, arith}
+use Rattle.std.proofs.Common.{◌≡◌, ℕ, ◌+◌, ◌*◌, ◌<◌, ◌≤◌, Bool, true, false, cond, List, [], ◌∷◌, length, get_or, take, replicate, sym, refl, ap, ◌∙◌, subst, arith}
+use Rattle.std.proofs.lemmas.List.{length-take-le, length-replicate}
 use Rattle.curve.specs.declared.points.Point.{Point}
 use Rattle.curve.specs.Curve.{no_point, reads}
 use Rattle.corridor.specs.Corridor.{Corridor}
@@ -15,6 +16,10 @@ use Rattle.runs.specs.Turns.{Replaced, Relaxed, changed, Filled}
 use Rattle.runs.proofs.Keeping.{ordered, up_mono, up_high, lo_low, latest_bound}
 use Rattle.worklist.specs.Work.{Work}
 use Rattle.relaxing.specs.Labels.{Relabelled}
+
+-- the first places of the memory of a curve, one for each departure
+pub lent_long : (w H : ℕ) (ys : List ℕ) → w ≡ H → H ≤ 1440 → length ys ≡ length (take (w + 1) (replicate {A = ℕ} 1441 0)) → length ys ≡ H + 1
+lent_long w H ys is day e = e ∙ length-take-le (w + 1) (replicate 1441 0) (omega (arith, is, day, length-replicate {A = ℕ} 1441 0)) ∙ omega (arith, is)
 
 module _ (net : Net) (laws : Lawful net) (f : Figures) (rows : List ℕ) (ready : Ready net f rows) (r : ℕ) (road : r < net.roads) (some : labelled f rows (net.tail r) ≡ true) (ls us : List ℕ) (l_long : length ls ≡ f.window + 1) (u_long : length us ≡ f.window + 1) (asked : Asked net f rows r ls us) where
   abbrev H : ℕ

@@ -1,2 +1,1 @@
 mod Corridors
-pub mod Told

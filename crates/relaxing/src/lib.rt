@@ -2,8 +2,7 @@
 
 #![tactic(auto)]
 
-mod sampling;
+mod curves;
 mod step;
 
-pub use sampling::tail_of;
 pub use step::relax;

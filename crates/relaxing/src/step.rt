@@ -8,17 +8,16 @@ ghost use Rattle.runs.specs.Ready.{Asked, Offered, Ready};
 ghost use Rattle.runs.specs.Sheet.{Within, labelled};
 ghost use Rattle.runs.specs.Turns.{Filled, Relaxed};
 
-use super::sampling::{allowance, cross_each, head_of, is_within, lower, tail_of};
+use super::curves::{cross_each, is_within, lower};
 use corridor::{Bounds, Full};
 use curve::Point as CurvePoint;
 use network::Network;
-use rows::write_row;
-use runs::{DEPARTURES, Heading, Sheet};
+use runs::{DEPARTURES, Heading, RoadOf, Sheet};
 use worklist::WorkList;
 
-// A corridor's two curves are two slices: one at a time is sampled, crossed and lowered. A struct of both would have to
-// promise with every call that it lends the memory that it lent before. They are written where they are lent, and no
-// curve is answered: nothing is allocated here.
+// A corridor's two curves are two slices, too long to be answered by value, and nothing is allocated here: they are written
+// where they are lent, and a `bool` is answered beside them. In one struct they would need its methods, and with each the
+// promise that it keeps to the memory it was lent; a slice and its length say less.
 
 /// Narrows what a road offers by the label that its head has; whether the road asks for a new label.
 fn narrow<N: Network, L: WorkList>(
@@ -36,7 +35,9 @@ fn narrow<N: Network, L: WorkList>(
 {
     let mut places = [0; DEPARTURES];
     let known = &mut places[..lo.len()];
-    sheet.labels().sample(head_of(sheet.net, road), known);
+    let net = sheet.net;
+    let head = RoadOf { net, road }.head();
+    sheet.labels().sample(head, known);
     if is_within(known, up) {
         return false;
     }
@@ -59,15 +60,11 @@ fn corridor_of<N: Network, L: WorkList>(
     ensures asks_or_is_within { MatchBool result (Asked (N.Network.means sheet.now.net.now) sheet.now.heading.figures sheet.now.rows.now road lo.new up.new) (Within (N.Network.means sheet.now.net.now) sheet.now.heading.figures sheet.now.rows.now road) }
 {
     let labels = sheet.labels();
-    labels.sample(tail_of(sheet.net, road), lo);
-    cross_each(
-        sheet.net,
-        road,
-        allowance(sheet.net, sheet.heading, road),
-        lo,
-        up,
-    );
-    if !labels.has(head_of(sheet.net, road)) {
+    let net = sheet.net;
+    let way = RoadOf { net, road };
+    labels.sample(way.tail(), lo);
+    cross_each(&way, way.allowance(sheet.heading), lo, up);
+    if !labels.has(way.head()) {
         return true;
     }
     narrow(sheet, road, lo, up)
@@ -82,35 +79,7 @@ fn relabel(heading: Heading, rows: &mut [u32], node: u32, bounds: &Bounds<'_>) -
     let mut points = [CurvePoint::default(); DEPARTURES];
     let label = &mut points[..heading.places() as usize];
     let count = bounds.label(label)?;
-    let start = heading.row_start(node);
-    write_row(
-        &label[..count],
-        &mut rows[start..start + heading.row_width()],
-    );
-    Ok(())
-}
-
-/// Relaxes a road in memory that is lent for its corridor.
-fn relax_between<N: Network, L: WorkList>(
-    sheet: &mut Sheet<'_, N, L>,
-    road: u32,
-    lo: &mut [u32],
-    up: &mut [u32],
-) -> Result<(), Full>
-    requires road { road < sheet.old.heading.figures.roads }
-    requires labelled { labelled sheet.old.heading.figures sheet.old.rows.now ((N.Network.means sheet.old.net.now).tail road) ≡ true }
-    requires lo_long { length lo.old ≡ sheet.old.heading.figures.window + 1 }
-    requires up_long { length up.old ≡ sheet.old.heading.figures.window + 1 }
-    ensures same_parts { SameParts sheet.old sheet.new }
-    ensures relaxed_or_full { MatchResult result (λ _. Relaxed L.WorkList.work (N.Network.means sheet.old.net.now) (told sheet.old) road (told sheet.new)) (λ _. Filled (N.Network.means sheet.old.net.now) (told sheet.old) road (told sheet.new)) }
-{
-    if !corridor_of(sheet, road, lo, up) {
-        return Ok(());
-    }
-    let head = head_of(sheet.net, road);
-    let bounds = Bounds { lo, up };
-    relabel(sheet.heading, sheet.rows, head, &bounds)?;
-    let _ = sheet.list.put(head, lo[0]);
+    heading.write_label(rows, node, &label[..count]);
     Ok(())
 }
 
@@ -123,7 +92,15 @@ pub fn relax<N: Network, L: WorkList>(sheet: &mut Sheet<'_, N, L>, road: u32) ->
     ensures relaxed_or_full { MatchResult result (λ _. Relaxed L.WorkList.work (N.Network.means sheet.old.net.now) (told sheet.old) road (told sheet.new)) (λ _. Filled (N.Network.means sheet.old.net.now) (told sheet.old) road (told sheet.new)) }
 {
     let departures = sheet.heading.window() as usize + 1;
-    let mut lo = [0; DEPARTURES];
-    let mut up = [0; DEPARTURES];
-    relax_between(sheet, road, &mut lo[..departures], &mut up[..departures])
+    let (mut lo, mut up) = ([0; DEPARTURES], [0; DEPARTURES]);
+    let (lo, up) = (&mut lo[..departures], &mut up[..departures]);
+    if !corridor_of(sheet, road, lo, up) {
+        return Ok(());
+    }
+    let net = sheet.net;
+    let head = RoadOf { net, road }.head();
+    let bounds = Bounds { lo, up };
+    relabel(sheet.heading, sheet.rows, head, &bounds)?;
+    let _ = sheet.list.put(head, lo[0]);
+    Ok(())
 }

@@ -35,8 +35,7 @@ impl<'r> Labels<'r> {
         ensures row_is { result.now ≡ row self.now.heading.figures.places self.now.rows.now node }
         ensures whole { length result.now ≡ width self.now.heading.figures.places }
     {
-        let start = self.heading.row_start(node);
-        &self.rows[start..start + self.heading.row_width()]
+        &self.rows[self.heading.row_range(node)]
     }
 
     /// Whether a node has a label.

@@ -5,11 +5,14 @@
 mod asks;
 mod heading;
 mod labels;
+mod roads;
 mod sheet;
 mod sizes;
+mod writes;
 
 pub use heading::Heading;
 pub use labels::{DEPARTURES, Labels};
+pub use roads::RoadOf;
 pub use sheet::Sheet;
 
 /// A sheet's figures: how many nodes and roads, the last departure, how many points a row has places for, the

@@ -1,4 +1,4 @@
-ghost use Rattle.std.specs.Prelude.{◌≡◌, ◌≤◌, length};
+ghost use Rattle.std.specs.Prelude.{◌≡◌};
 ghost use Rattle.runs.specs.Once.{ready_once};
 ghost use Rattle.runs.specs.Ready.{Ready};
 
@@ -15,7 +15,6 @@ pub struct Sheet<'a, N: Network, L: WorkList> {
     pub marks: &'a [u8],
     pub list: &'a mut L,
     ghost ready: { Ready (N.Network.means net.now) heading.figures rows.now } by { ready_once (N.Network.means net.now) heading.figures rows.now },
-    ghost marked: { heading.figures.roads ≤ length marks.now },
     ghost bound: { L.WorkList.bound list.now ≡ heading.figures.nodes },
 }
 

@@ -14,7 +14,6 @@ use super::rules::clear_rows;
 use curve::Point;
 use network::Network;
 use refusal::Refusal;
-use rows::write_row;
 use runs::Heading;
 use worklist::WorkList;
 
@@ -30,11 +29,7 @@ fn begin_rows(heading: Heading, rows: &mut [u32], node: u32)
         departure: window,
         arrival: window,
     };
-    let start = heading.row_start(node);
-    write_row(
-        &[Point::default(), last],
-        &mut rows[start..start + heading.row_width()],
-    );
+    heading.write_label(rows, node, &[Point::default(), last]);
 }
 
 /// Begins a sheet anew with `node` as its origin: gives it the only label, and puts it alone on the list.

@@ -1,4 +1,4 @@
-ghost use Rattle.std.specs.Prelude.{◌≡◌, ◌<◌, true, MatchResult};
+ghost use Rattle.std.specs.Prelude.{◌≡◌, ◌<◌, ◌≤◌, true, length, MatchResult};
 ghost use Rattle.runs.specs.Parts.{SameParts, told};
 ghost use Rattle.runs.specs.Sheet.{labelled};
 ghost use Rattle.runs.specs.Turns.{Worked};
@@ -6,8 +6,8 @@ ghost use Rattle.turns.specs.Passing.{Blocked, Steps, Went};
 
 use corridor::Full;
 use network::Network;
-use relaxing::{relax, tail_of};
-use runs::{Outcome, Sheet};
+use relaxing::relax;
+use runs::{Outcome, RoadOf, Sheet};
 use worklist::WorkList;
 
 /// How a turn ended.
@@ -28,12 +28,15 @@ fn pass<N: Network, L: WorkList>(
     road: u32,
 ) -> Result<(), Full>
     requires road { road < sheet.old.heading.figures.roads }
+    requires marked { road < length sheet.old.marks.now }
     requires labelled { labelled sheet.old.heading.figures sheet.old.rows.now node ≡ true }
     ensures same_parts { SameParts sheet.old sheet.new }
     ensures stays_labelled { labelled sheet.old.heading.figures sheet.new.rows.now node ≡ true }
     ensures passed_or_full { MatchResult result (λ _. Steps L.WorkList.work (N.Network.means sheet.old.net.now) node road (told sheet.old) (told sheet.new)) (λ _. Blocked (N.Network.means sheet.old.net.now) node road (told sheet.old) (told sheet.new)) }
 {
-    if sheet.marks[road as usize] != 0 || tail_of(sheet.net, road) != node {
+    let net = sheet.net;
+    let tail = RoadOf { net, road }.tail();
+    if sheet.marks[road as usize] != 0 || tail != node {
         return Ok(());
     }
     relax(sheet, road)
@@ -42,6 +45,7 @@ fn pass<N: Network, L: WorkList>(
 /// One turn: takes a waiting node and relaxes its open roads by rising number. Where a label is full the node is put
 /// back.
 pub fn turn<N: Network, L: WorkList>(sheet: &mut Sheet<'_, N, L>) -> Ended
+    requires marked { sheet.old.heading.figures.roads ≤ length sheet.old.marks.now }
     ensures same_parts { SameParts sheet.old sheet.new }
     ensures went { Went L.WorkList.work (N.Network.means sheet.old.net.now) result (told sheet.old) (told sheet.new) }
 {
@@ -63,6 +67,7 @@ pub fn turn<N: Network, L: WorkList>(sheet: &mut Sheet<'_, N, L>) -> Ended
 
 /// Finishes `count` turns, unless nothing waits or a label is full: the turns that were finished, and how it ended.
 pub fn turns<N: Network, L: WorkList>(sheet: &mut Sheet<'_, N, L>, count: u32) -> (u32, Outcome)
+    requires marked { sheet.old.heading.figures.roads ≤ length sheet.old.marks.now }
     ensures same_parts { SameParts sheet.old sheet.new }
     ensures worked { Worked L.WorkList.work (N.Network.means sheet.old.net.now) (told sheet.old) count result.0 result.1 (told sheet.new) }
 {

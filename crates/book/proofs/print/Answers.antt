@@ -31,7 +31,7 @@ returns-then-not-is_empty g c =
 pub invariant_of-cells : goal.invariant_of-cells
 invariant_of-cells g c =
     let h = c.args.heading.now in
-    record { fits = sheet_fits _ h.figures c.args.rows.now c.args.marks.now _ _ _ (right_tells h.figures h.lawful) (fit c.in_ok-judge.ensures.judged) c.row_width.ensures.width_is c.nodes.ensures.nodes_held }
+    record { fits = sheet_fits _ h.figures c.args.rows.now c.args.marks.now _ _ _ (right_tells h.figures h.lawful) (fit c.in_ok-judge.ensures.judged) (c.row_width.ensures.width_is ∙ ap (λ (g : Figures). width g.places) c.figures.ensures.figures_held) c.nodes.ensures.nodes_held }
 
 -- what is laid out is the sheet's book
 laid : (f : Figures) (cells : List ℕ) (w n : ℕ) → w ≡ width f.places → n ≡ f.nodes → layout (rows cells w n) ≡ book_of f cells
@@ -41,7 +41,7 @@ pub returns-then-text_length-buffer : goal.returns-then-text_length-buffer
 returns-then-text_length-buffer g c =
     let f = c.args.heading.now.figures in
     let some = some_origin f.origin (ap (λ (o : Option ℕ). is_some o) (sym c.origin.ensures.origin_held) ∙ c.if-is_none.ensures) in
-    let is = laid f c.args.rows.now _ _ c.row_width.ensures.width_is c.nodes.ensures.nodes_held in
+    let is = laid f c.args.rows.now _ _ (c.row_width.ensures.width_is ∙ ap (λ (g : Figures). width g.places) c.figures.ensures.figures_held) c.nodes.ensures.nodes_held in
     let long : length c.args.buffer.now < length (book_of f c.args.rows.now) = omega (arith, c.text_length.ensures.measures_text, ap length is) in
     record { refused_as_listed = printing.fit _ (fit c.in_ok-judge.ensures.judged) (cramped some.0 some.1 c.if-not-is_empty.ensures.none_waits_or_some long); length_of_book = tt; book_printed = tt; refused_keeps_all = refl }
 
@@ -52,7 +52,7 @@ pub returns : goal.returns
 returns g c =
     let f = c.args.heading.now.figures in
     let some = some_origin f.origin (ap (λ (o : Option ℕ). is_some o) (sym c.origin.ensures.origin_held) ∙ c.if-is_none.ensures) in
-    let is = laid f c.args.rows.now _ _ c.row_width.ensures.width_is c.nodes.ensures.nodes_held in
+    let is = laid f c.args.rows.now _ _ (c.row_width.ensures.width_is ∙ ap (λ (g : Figures). width g.places) c.figures.ensures.figures_held) c.nodes.ensures.nodes_held in
     let short : length (book_of f c.args.rows.now) ≤ length c.args.buffer.now = omega (arith, c.text_length.ensures.measures_text, ap length is) in
     record {
       refused_as_listed = printing.fit _ (fit c.in_ok-judge.ensures.judged) (printable some.0 some.1 c.if-not-is_empty.ensures.none_waits_or_some short);

@@ -20,5 +20,5 @@ cross_each-requires-clause-asked g c = λ t lt.
     let le : t < f.window + 1 = omega (arith, lt, c.requires.lo_long, c.sample.auto.out) in
     let same = c.labels-labels.ensures.same_heading in
     let read = c.sample.ensures.each_departure_read t (omega (arith, le, ap (λ (h : Heading). h.figures.window) same)) in
-    let reads = read_as _ _ _ _ c.tail_of.result t same c.labels-labels.ensures.same_rows ∙ ap (λ (v : ℕ). at f s.rows.now v t) c.tail_of.ensures.tail_is in
+    let reads = read_as _ _ _ _ c.tail.result t same c.labels-labels.ensures.same_rows ∙ ap (λ (v : ℕ). at f s.rows.now v t) c.tail.ensures.tail_is in
     omega (arith, read, reads, label_high f.window (latest f s.rows.now) _ lab t (omega (arith, le)), latest_bound f s.rows.now s.ready.right)

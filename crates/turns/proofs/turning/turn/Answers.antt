@@ -28,7 +28,7 @@ invariant_of-sheet-in-Err g c =
     let nodes = ap (λ (h : Heading). h.figures.nodes) (c.in-Err.ensures.same_parts.heading ∙ c.loop-road.invariant.1.heading) in
     let node : c.in-Some.node < g.L.WorkList.bound t.list.now = omega (arith, g.met.L.WorkList.inside _ _ (g.met.L.WorkList.orderly.take_waits _ _ _ c.in-Some.ensures.takes), s.bound, t.bound, nodes) in
     let put = (granted _ c.put.result c.put.ensures.puts_or_refuses (λ e q. omega (arith, q.fault, node))).1 in
-    record { ready = t.ready; marked = t.marked; bound = g.met.L.WorkList.putting _ _ _ _ put ∙ t.bound }
+    record { ready = t.ready; bound = g.met.L.WorkList.putting _ _ _ _ put ∙ t.bound }
 
 pub returns-in-Err-clause-went : goal.returns-in-Err-clause-went
 returns-in-Err-clause-went g c =

@@ -10,7 +10,7 @@ use Rattle.turns.proofs.working.work.Goals as goal
 pub invariant_of-sheet : goal.invariant_of-sheet
 invariant_of-sheet g c =
     let parts = fit c.in_ok-judge.ensures.judged in
-    record { ready = readied (right_tells c.args.heading.now.figures c.args.heading.now.lawful) parts; marked = parts.roomy.marks; bound = parts.agree.bound }
+    record { ready = readied (right_tells c.args.heading.now.figures c.args.heading.now.lawful) parts; bound = parts.agree.bound }
 
 pub returns-clause-settles : goal.returns-clause-settles
 returns-clause-settles g c =
