@@ -1,6 +1,8 @@
 -- Which nodes have a label, told by the first number of their rows.
-use Rattle.std.proofs.Common.{◌≡◌, ℕ, zero, suc, ◌+◌, ◌<◌, true, false, cond, List, replicate, Some, None, Option, refl, ap, ◌∙◌, subst, inl, inr, add-one, arith}
-use Rattle.std.proofs.lemmas.Bool.{cond-true, cond-false, both_ways, cases_Bool}
+use Rattle.std.proofs.Common.{◌≡◌, ℕ, zero, suc, ◌+◌, ◌<◌, false, cond, List, map, map-id, replicate, Some, None, Option, refl, sym, ap, ◌∙◌, subst, inl, inr, add-one, arith}
+use Rattle.std.proofs.lemmas.Bool.{cond-false, both_ways, cases_Bool}
+use Rattle.std.proofs.lemmas.List.FromFn.{sum_by-map-range_with_len_more}
+use Rattle.std.specs.List.{count_by, range_with_len, sum_by}
 use Rattle.rows.specs.Rows.{width, points, laid_back}
 use Rattle.runs.specs.declared.Figures.{Figures}
 use Rattle.runs.specs.Sheet.{row, any, labelled}
@@ -11,15 +13,14 @@ use Rattle.runs.proofs.Reading.{label_there}
 use Rattle.forming.specs.Parts.{Marked, Holding, Begun}
 
 module _ (f : Figures) (rows : List ℕ) where
-  labels_more : (k : ℕ) → labels_below f rows (k + 1) ≡ labels_below f rows k + cond (labelled f rows k) 1 0
-  labels_more k = rw (add-one k)
-
-  -- one more node without a label, or with one
-  pub labels_kept : (k : ℕ) → labelled f rows k ≡ false → labels_below f rows (k + 1) ≡ labels_below f rows k
-  labels_kept k e = labels_more k ∙ ap (λ (n : ℕ). labels_below f rows k + n) (cond-false _ 1 0 e) ∙ omega arith
-
-  pub labels_up : (k : ℕ) → labelled f rows k ≡ true → labels_below f rows (k + 1) ≡ labels_below f rows k + 1
-  labels_up k e = labels_more k ∙ ap (λ (n : ℕ). labels_below f rows k + n) (cond-true _ 1 0 e)
+  -- the labels below k, counted over the nodes
+  pub labels_over : (k : ℕ) → labels_below f rows k ≡ count_by (labelled f rows) (range_with_len 0 k)
+  labels_over zero = refl
+  labels_over (suc k) =
+      let g : ℕ → ℕ = λ v. cond (labelled f rows v) 1 0 in
+      let ids : (n : ℕ) → sum_by g (map (λ (v : ℕ). v) (range_with_len 0 n)) ≡ sum_by g (range_with_len 0 n) = λ n. ap (sum_by g) (map-id (range_with_len 0 n)) in
+      let next : count_by (labelled f rows) (range_with_len 0 (suc k)) ≡ count_by (labelled f rows) (range_with_len 0 (k + 1)) = ap (λ n. count_by (labelled f rows) (range_with_len 0 n)) (sym (add-one k)) in
+      omega (arith, labels_over k, next, ids k, ids (k + 1), sum_by-map-range_with_len_more g (λ (v : ℕ). v) 0 k k (omega arith))
 
   -- with no label below k, none of those nodes has one
   none_below : (k v : ℕ) → labels_below f rows k ≡ 0 → v < k → labelled f rows v ≡ false

@@ -6,6 +6,9 @@ ghost use Rattle.runs.specs.Formed.{Label};
 
 use rows::{pairs_of, point_of};
 
+// Beside `curve::is_climbing`, which takes points: a row is lent as numbers, and a list of its points would need memory of
+// its own. What the two share is `climbs_to`.
+
 /// Whether departures rise from point to point, and arrivals never fall.
 fn is_climbing(pairs: &[[u32; 2]]) -> bool
     ensures climbs_or_not { result ≡ climbing (map point_of pairs.now) }

@@ -25,25 +25,16 @@ fn count_labels(labels: &Labels<'_>) -> u32
     ensures labels_counted { result ≡ labels_below labels.now.heading.figures labels.now.rows.now labels.now.heading.figures.nodes }
     ensures at_most_all { result ≤ labels.now.heading.figures.nodes }
 {
-    let mut count: u32 = 0;
-    for node in 0..labels.heading.nodes() {
-        if labels.has(node) {
-            count += 1;
-        }
-    }
-    count
+    (0..labels.heading.nodes())
+        .filter(|node| labels.has(*node))
+        .count() as u32
 }
 
 /// Whether every row holds a label with no arrival after `limit`, or nothing.
 fn are_rows(labels: &Labels<'_>, limit: u32) -> bool
     ensures rows_or_not { MatchBool result (Holding labels.now.heading.figures limit labels.now.rows.now) (Holding labels.now.heading.figures limit labels.now.rows.now → ⊥) }
 {
-    for node in 0..labels.heading.nodes() {
-        if !is_row(labels.heading, labels.row(node), limit) {
-            return false;
-        }
-    }
-    true
+    (0..labels.heading.nodes()).all(|node| is_row(labels, node, limit))
 }
 
 /// Whether the origin has an origin's row; without an origin, whether there are no labels.
@@ -52,7 +43,7 @@ fn begins(labels: &Labels<'_>, count: u32) -> bool
     ensures begun_or_not { MatchBool result (Begun labels.now.heading.figures labels.now.rows.now labels.now.heading.figures.origin) (Begun labels.now.heading.figures labels.now.rows.now labels.now.heading.figures.origin → ⊥) }
 {
     match labels.heading.origin() {
-        Some(origin) => is_origin_row(labels.heading, labels.row(origin)),
+        Some(origin) => is_origin_row(labels, origin),
         None => count == 0,
     }
 }

@@ -1,18 +1,27 @@
-use Rattle.std.proofs.Common.{length, sym, ap, ◌∙◌, subst, arith, below_more}
+use Rattle.std.proofs.Common.{◌≡◌, ℕ, Bool, true, false, List, MatchBool, sym, ap₂, arith}
+use Rattle.std.proofs.lemmas.Bool.{MatchBool-at_true, MatchBool-at_false}
+use Rattle.std.proofs.lemmas.Iterator.{cases_from_all, YieldsList-from_range}
 use Rattle.runs.specs.Formed.{Row}
-use Rattle.runs.proofs.Rows.{row_length}
+use Rattle.runs.specs.Sheet.{row}
+use Rattle.forming.proofs.Whens.{when_below}
 use Rattle.forming.proofs.sheets.are_rows.Goals as goal
 
-pub is_row-requires : goal.is_row-requires
-is_row-requires c = record { whole = ap length c.row.ensures.row_is ∙ row_length c.args.labels.now.heading.figures.places c.args.labels.now.heading.figures.nodes c.loop-node.node c.args.labels.now.rows.now c.args.labels.now.room (omega (arith, c.loop-node-test.true, c.nodes-node-end.ensures.nodes_held)) }
+-- what one call says of a row
+row_so : {P H limit : ℕ} {xs : List ℕ} {b : Bool} → MatchBool b (Row P H limit xs) (Row P H limit xs → ⊥) → true ≡ b → Row P H limit xs
+row_so m e = MatchBool-at_true _ _ (sym e) m
 
-pub loop-node-preserved : goal.loop-node-preserved
-loop-node-preserved c = below_more _ _ c.loop-node.invariant (subst (Row c.args.labels.now.heading.figures.places c.args.labels.now.heading.figures.window c.args.limit) c.row.ensures.row_is c.if-not-is_row.ensures.row_or_not)
+row_not : {P H limit : ℕ} {xs : List ℕ} {b : Bool} → MatchBool b (Row P H limit xs) (Row P H limit xs → ⊥) → false ≡ b → Row P H limit xs → ⊥
+row_not m e = MatchBool-at_false _ _ (sym e) m
 
-pub returns-then-not-is_row : goal.returns-then-not-is_row
-returns-then-not-is_row c = record {
-  rows_or_not = λ h. c.if-not-is_row.ensures.row_or_not (subst (Row c.args.labels.now.heading.figures.places c.args.labels.now.heading.figures.window c.args.limit) (sym c.row.ensures.row_is) (h c.loop-node.node (omega (arith, c.loop-node-test.true, c.nodes-node-end.ensures.nodes_held))));
-}
+-- and that what is captured stays as it is
+pair_same : {A B : Type 0} {a : A} {b : B} {q : A × B} → q.0 ≡ a → q.1 ≡ b → q ≡ (a, b)
+pair_same d e = ap₂ (λ x y. (x, y)) d e
 
 pub returns : goal.returns
-returns c = record { rows_or_not = λ v lt. c.loop-node.invariant v (omega arith) }
+returns c =
+    let f = c.args.labels.now.heading.figures in
+    let P : ℕ → Type 0 = λ v. Row f.places f.window c.args.limit (row f.places c.args.labels.now.rows.now v) in
+    record {
+      rows_or_not = when_below P f.nodes _ (cases_from_all _ _ _ P (λ v. P v → ⊥) c.all.ensures.ran
+          (YieldsList-from_range 0 f.nodes f.nodes (cc) (omega arith)) (λ x q k. search (row_so, pair_same)) (λ x q k. search row_not));
+    }
