@@ -20,9 +20,11 @@ pub fn pairs_of(row: &[u32]) -> &[[u32; 2]]
     &pairs[..row[0] as usize]
 }
 
+// No `From` of a pair: its two numbers have no names, and which of them comes first is this layout's alone.
+
 /// The point of a departure and an arrival.
 pub fn point_of(pair: &[u32; 2]) -> Point
-    ensures { result ≡ point_of pair.now }
+    ensures departure_then_arrival { result ≡ point_of pair.now }
 {
     let [departure, arrival] = *pair;
     Point { departure, arrival }
@@ -37,6 +39,7 @@ pub fn read_row(row: &[u32], out: &mut [Point]) -> usize
     ensures rest_kept { drop result out.new ≡ drop result out.old }
 {
     let pairs = pairs_of(row);
+    // By index: `out.iter_mut().zip(pairs)` was tried, and a proof knows nothing of what it leaves in `out`.
     for (index, pair) in pairs.iter().enumerate() {
         out[index] = point_of(pair);
     }
