@@ -21,14 +21,11 @@ const PLACES: u32 = 8;
 /// How many numbers the four rows of such a sheet have.
 const SIZE: usize = 68;
 
-/// The number by which a call was refused, 0 if it was not.
-fn number_of<T: Drop>(answer: Result<T, Refusal>) -> u32
-    ensures as_listed { MatchResult answer (λ _. result ≡ 0) (λ e. result ≡ number e) }
+/// The number by which a call was refused, if it was.
+fn number_of<T: Drop>(answer: Result<T, Refusal>) -> Option<u32>
+    ensures as_listed { MatchResult answer (λ _. result ≡ None) (λ e. result ≡ Some (number e)) }
 {
-    match answer {
-        Ok(_) => 0,
-        Err(refusal) => refusal.number(),
-    }
+    answer.err().map(Refusal::number)
 }
 
 /// Rules a sheet of the town with places for so many points a row, and begins it at the town's origin.
@@ -99,11 +96,11 @@ fn rules_a_day_and_no_more(rt: HostRuntime) -> Result<(), Fail> {
     let mut list = Fifo::new();
     assert_eq!(rt;
         number_of(rule(&net, &mut short, &mut marks, &mut list, 1441, 2, 0)),
-        1
+        Some(1)
     );
     assert_eq!(rt;
         number_of(rule(&net, &mut short, &mut marks, &mut list, 1440, 2, 0)),
-        5
+        Some(5)
     );
     assert!(rt; short == [7; 19] && marks == [1; 4] && list.bound() == 1);
     let heading = rule(&net, &mut rows, &mut marks, &mut list, 1440, 2, 0)?;
@@ -122,11 +119,11 @@ fn refuses_an_origin(rt: HostRuntime) -> Result<(), Fail> {
     let mut heading = rule(&net, &mut rows, &mut marks, &mut list, WINDOW, 2, ALLOWANCE)?;
     assert_eq!(rt;
         number_of(origin(&net, &mut heading, &mut short, &marks, &mut list, 4)),
-        5
+        Some(5)
     );
     assert_eq!(rt;
         number_of(origin(&net, &mut heading, &mut rows, &marks, &mut list, 4)),
-        8
+        Some(8)
     );
     assert!(rt; short == [7; 19] && rows == [0; 20] && list.is_empty());
     assert_eq!(rt; heading.origin(), None);
@@ -142,13 +139,13 @@ fn refuses_to_work(rt: HostRuntime) -> Result<(), Fail> {
     let heading = rule(&net, &mut rows, &mut marks, &mut list, WINDOW, 2, ALLOWANCE)?;
     assert_eq!(rt;
         number_of(work(&net, &heading, &mut rows, &marks, &mut list, 1)),
-        7
+        Some(7)
     );
     rows[5] = 1;
     let spoilt = rows;
     assert_eq!(rt;
         number_of(work(&net, &heading, &mut rows, &marks, &mut list, 1)),
-        6
+        Some(6)
     );
     assert!(rt; rows == spoilt && list.is_empty());
     Ok(())
