@@ -14,6 +14,8 @@ use runs::Heading;
 use sheet::judge;
 use worklist::WorkList;
 
+// The parts of a sheet come one by one, as to `judge`.
+
 /// Prints a settled sheet at the front of the buffer, and answers how long its text is; bytes after the text are kept.
 /// Refuses parts that may not be used together, then a sheet without an origin, one that is not settled, and last a
 /// buffer that is too short.

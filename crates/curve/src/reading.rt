@@ -18,9 +18,7 @@ pub fn line_at(from: Point, to: Point, x: u32) -> u32
 
 /// The laws of the line between two points, and of runs of points, hold.
 #[tactic(auto, using(crate::proofs::Laws::line_laws, crate::proofs::Laws::run_laws))]
-pub fn laws_stand() -> u8
+pub fn laws_stand()
     ensures line_laws { LineLaws }
     ensures run_laws { RunLaws }
-{
-    0
-}
+{}

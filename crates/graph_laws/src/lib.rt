@@ -7,37 +7,29 @@ ghost use Rattle.graph_laws.specs.Grammar.{TakesGraphFiles, TakesNothingElse};
 ghost use Rattle.graph_laws.specs.Overtaking.{LoadsGraphFiles, LoadsNothingElse, NamesLowestRoad, PointsInRoadOrder};
 
 /// Exactly the texts that are graph files are taken.
-pub fn grammar_stands() -> u8
+pub fn grammar_stands()
     ensures takes_graph_files { TakesGraphFiles }
     ensures takes_nothing_else { TakesNothingElse }
-{
-    0
-}
+{}
 
 /// Exactly the graph files without overtaking are loaded, and the lowest road that is overtaken
 /// is named.
-pub fn overtaking_stands() -> u8
+pub fn overtaking_stands()
     ensures loads_graph_files { LoadsGraphFiles }
     ensures loads_nothing_else { LoadsNothingElse }
     ensures names_lowest_road { NamesLowestRoad }
-{
-    0
-}
+{}
 
 /// A road's points stand one after another, in the order of the files.
-pub fn road_order_stands() -> u8
+pub fn road_order_stands()
     ensures points_in_road_order { PointsInRoadOrder }
-{
-    0
-}
+{}
 
 /// A refused text is refused at its first fault.
-pub fn faults_stand() -> u8
+pub fn faults_stand()
     ensures names_line { NamesLine }
     ensures front_decides { FrontDecides }
-{
-    0
-}
+{}
 
 #[cfg(test)]
 mod tests {

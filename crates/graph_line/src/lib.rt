@@ -24,6 +24,7 @@ pub struct Arc {
 pub enum Statement {
     Comment,
     /// How many nodes and how many roads a file has.
+    // Two numbers and no struct: each `match` names them, and then they go different ways.
     Problem(u32, u32),
     Crossing(Arc),
     /// A broken line that begins as a problem line does, so that it begins a file.

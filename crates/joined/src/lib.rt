@@ -103,11 +103,9 @@ impl<P: Network, Q: Network> Network for Joined<P, Q> {
 
 /// A join has the roads of the first, then those of the second, and a join of lawful networks is lawful.
 #[tactic(auto, using(crate::specs::Joins::join_laws))]
-pub fn joins_stand() -> u8
+pub fn joins_stand()
     ensures join_laws { JoinLaws }
-{
-    0
-}
+{}
 
 #[cfg(test)]
 mod tests;

@@ -13,6 +13,9 @@ use rows::point_of;
 // Measured apart, and not in one walk that also writes: a buffer that is too short must be seen before a byte of it is
 // written.
 
+// Two loops with a total: a `map` and a `sum` were tried, and nothing of the lines' bound is known of their total, to which
+// more is added.
+
 /// How long a line is.
 fn line_length(node: u32, point: Point) -> usize
     ensures measures_line { result ≡ length (line_text node point) }
@@ -27,7 +30,6 @@ fn row_length(node: u32, pairs: &[[u32; 2]]) -> usize
     ensures measures_row { result ≡ length (row_text node (map point_of pairs.now)) }
     ensures short { result ≤ 48994 }
 {
-    // A `map` and a `sum` were tried: nothing of the lines' bound is known of their total, to which more is added.
     let mut total = 0;
     for pair in pairs {
         total += line_length(node, point_of(pair));

@@ -15,9 +15,10 @@ use rows::point_of;
 pub const HEADER: &[u8] = b"node,departure,arrival\r\n";
 
 /// The length of the first line.
-pub const HEADER_LENGTH: usize = 24;
+pub const HEADER_LENGTH: usize = HEADER.len();
 
 /// A buffer, and where the next byte goes.
+// No `Vec`: the buffer is lent, nothing is allocated here, and what stands after the text is kept.
 #[derive(Drop)]
 pub struct Writer<'b> {
     pub buffer: &'b mut [u8],

@@ -20,6 +20,8 @@ fn least_on(run: &Run) -> u32
     run.points.iter().map(|p| p.span()).min().unwrap()
 }
 
+// Each kind of road cuts its run out of its own table, tested or kept by its rule: a line, which a call would not shorten.
+
 impl Road {
     /// The points of a road that keeps its rule.
     #[tactic(auto, using(crate::specs::Tabled::road_late))]

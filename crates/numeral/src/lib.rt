@@ -103,9 +103,7 @@ impl<'a> Iterator for Lines<'a> {
 }
 
 /// Each number has one text: what is written is read back, and what is read is what it writes.
-pub fn numbers_read_back_stands() -> u8
+pub fn numbers_read_back_stands()
     ensures reads_what_is_written { ReadsWhatIsWritten }
     ensures writes_what_is_read { WritesWhatIsRead }
-{
-    0
-}
+{}

@@ -6,6 +6,7 @@ ghost use Rattle.refusal.specs.Refusals.{number, places};
 ghost use Rattle.std.specs.Prelude.{◌≡◌};
 
 /// A line of a text: files and lines count from 1; 0 stands where there is none.
+// Numbers, and no `Option`: the rules print both with every refusal, and 0 where there is none.
 #[derive(Clone, Copy, PartialEq, Eq, Debug, Default)]
 pub struct Line {
     pub file: u32,
@@ -38,6 +39,7 @@ pub enum Refusal {
 }
 
 /// Where a refusal's fault lies: 0, or no road, where that does not apply. Roads count from 0.
+// The file and the line are printed as they stand here; a road's number may be 0, so that it needs an `Option`.
 #[derive(Clone, Copy, PartialEq, Eq, Debug, Default)]
 pub struct Places {
     pub file: u32,

@@ -19,6 +19,9 @@ use worklist::WorkList;
 // where they are lent, and a `bool` is answered beside them. In one struct they would need its methods, and with each the
 // promise that it keeps to the memory it was lent; a slice and its length say less.
 
+// That a road is one of the sheet's and that its tail has a label is required of each function by itself: a value that knew
+// it would have to borrow the rows, which relaxing writes.
+
 /// Narrows what a road offers by the label that its head has; whether the road asks for a new label.
 fn narrow<N: Network, L: WorkList>(
     sheet: &Sheet<'_, N, L>,

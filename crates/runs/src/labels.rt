@@ -19,6 +19,9 @@ pub struct Labels<'r> {
     ghost room: { heading.figures.nodes * width heading.figures.places ≤ length rows.now },
 }
 
+// A node by its number, and no value for a node's row: what is promised of a row names the rows and the node, and would
+// name them beside such a value too.
+
 impl<'r> Labels<'r> {
     /// The labels in rows that are long enough.
     pub fn new(heading: Heading, rows: &'r [u32]) -> Labels<'r>

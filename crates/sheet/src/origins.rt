@@ -43,6 +43,8 @@ pub fn restart<L: WorkList>(heading: &Heading, rows: &mut [u32], list: &mut L, n
     let _put = list.put(node, 0);
 }
 
+// The parts of a sheet come one by one, as to `judge`.
+
 /// Makes a node the origin, and begins the sheet anew with it. Refuses parts that may not be used together, then a node
 /// that there is not.
 pub fn origin<N: Network, L: WorkList>(

@@ -26,6 +26,9 @@ fn is_ruled(window: u32, places: u32, allowance: u32) -> bool
         && allowance <= LARGEST_ALLOWANCE
 }
 
+// Rows and marks are cleared apart: they differ in their numbers and in the figure that measures them, which is all that a
+// line of each says.
+
 /// Makes every number of the sheet's rows 0.
 pub fn clear_rows(heading: Heading, rows: &mut [u32])
     requires { heading.figures.nodes * width heading.figures.places ≤ length rows.old }
@@ -41,6 +44,8 @@ fn clear_marks(heading: Heading, marks: &mut [u8])
 {
     marks[..heading.roads() as usize].fill(0);
 }
+
+// The parts of a sheet come one by one, as to `judge`.
 
 /// Rules a sheet for a network: clears its rows, its marks and the list, and answers a heading with no origin. Memory past
 /// the rows and marks is kept. Refuses figures out of range, then rows or marks that are too short.

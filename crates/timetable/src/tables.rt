@@ -16,6 +16,7 @@ pub struct TimedRoad {
     /// The minutes from entry to arrival.
     pub time: u32,
     /// The index of its first interval.
+    // A place and a count, and no slice: tables are lent as plain numbers, with the intervals of all roads in one.
     pub first: u32,
     /// How many intervals it has.
     pub count: u32,

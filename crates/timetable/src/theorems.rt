@@ -5,8 +5,6 @@ ghost use Rattle.timetable.specs.Timed.{TimetableLaws};
 /// Tables are refused at the lowest road that breaks its rule; those accepted mean a lawful network, in
 /// which whoever is at a road enters it at the first minute at which it is open.
 #[tactic(auto, using(crate::specs::Timed::timetable_laws))]
-pub fn timetables_stand() -> u8
+pub fn timetables_stand()
     ensures timetable_laws { TimetableLaws }
-{
-    0
-}
+{}

@@ -13,6 +13,8 @@ use network::{TableRoad, Tables};
 /// A network over lent tables of timetabled roads and of their intervals.
 pub type Timetabled<'r, 'i> = Tables<'r, 'i, TimedRoad>;
 
+// Each kind of road cuts its run out of its own table, tested or kept by its rule: a line, which a call would not shorten.
+
 impl TimedRoad {
     /// When a road that keeps its rule may be entered.
     #[tactic(auto, using(crate::specs::Timed::road_some))]

@@ -91,8 +91,6 @@ pub fn town() -> Tabulated<'static, 'static>
 }
 
 /// What the tables of the town come to: crossings of its first road, and each road's allowance.
-pub fn town_stands() -> u8
+pub fn town_stands()
     ensures worked_out { WorkedOut (tabulated 4 town_roads town_points) }
-{
-    0
-}
+{}

@@ -13,6 +13,8 @@ use runs::{Heading, Outcome, Sheet};
 use sheet::judge;
 use worklist::WorkList;
 
+// The parts of a sheet come one by one, as to `judge`.
+
 /// Finishes exactly `count` turns, unless the list empties or a label is full, and answers the turns that were finished
 /// together with how it ended. Refuses parts that may not be used together, then a sheet without an origin.
 pub fn work<'a, N: Network, L: WorkList>(

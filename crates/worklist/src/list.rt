@@ -4,6 +4,7 @@ ghost use Rattle.worklist.specs.Work.{Work, Orderly, Idle, Refused, Sets};
 use refusal::Refusal;
 
 /// The largest bound of a work list.
+// `network` has the same number as its own bound: a work list is of use without a network, and asks for none.
 pub const MOST_NODES: u32 = 1024;
 
 /// A work list means a bound and a set of waiting nodes below it. The order in which they are taken is each list's own.
@@ -51,8 +52,6 @@ pub trait WorkList {
 }
 
 /// What follows from the laws of every list, on its set of waiting nodes.
-pub fn set_laws_stand<L: WorkList>(_list: &L) -> u8
+pub fn set_laws_stand<L: WorkList>(_list: &L)
     ensures laws_of_the_set { Sets L.work }
-{
-    0
-}
+{}
