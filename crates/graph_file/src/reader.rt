@@ -1,12 +1,13 @@
 //! The lines of graph files, read into the lent tables.
 
-ghost use Rattle.std.specs.Prelude.{◌≡◌, length, Some, None, Err, MatchResult};
+ghost use Rattle.std.specs.Prelude.{◌≡◌, ◌+◌, length, Some, None, Err, MatchResult};
 ghost use Rattle.graph_file.specs.Files.{end_of, file_of, files_in, refused_at};
 ghost use Rattle.graph_file.specs.Gathering.{Blank, Fit, Gathered, Takes, step_in};
 ghost use Rattle.graph_file.specs.Steps.{Sized, Within};
 ghost use Rattle.graph_file.specs.declared.machine.Fault.{Fault as FaultT};
 ghost use Rattle.graph_line.specs.Statements.{capped, said};
 ghost use Rattle.graph_line.specs.declared.Statement.TheVariants.{Crossing};
+ghost use Rattle.numeral.specs.Texts.{lines};
 
 use crate::machine::{Fault, Limits, Loaded, Progress, fits, repeats};
 use curve::Point;
@@ -96,17 +97,17 @@ impl Reader<'_> {
         }
     }
 
-    /// What all lines give; `line` is one past the last.
-    fn finish(&self, line: usize) -> Result<Loaded, Refusal>
-        ensures finishes { result ≡ end_of self.now.progress line }
+    /// What all lines of the text give; an end that comes too early is refused one line past the last.
+    fn finish(&self, text: &[u8]) -> Result<Loaded, Refusal>
+        ensures finishes { result ≡ end_of self.now.progress (length (lines text.now) + 1) }
     {
         match self.progress {
             Some(Progress { loaded, done }) if done == loaded.roads => Ok(loaded),
-            Some(Progress { loaded, done: _ }) => Err(Refusal::Text(Line {
-                file: loaded.files,
-                line,
+            // Counting the lines goes over the text once more, but only for this refusal.
+            progress => Err(Refusal::Text(Line {
+                file: progress.map_or(1, |progress| progress.loaded.files),
+                line: Lines(text).count() + 1,
             })),
-            None => Err(Refusal::Text(Line { file: 1, line })),
         }
     }
 
@@ -128,11 +129,9 @@ impl Reader<'_> {
         ensures reads_files { MatchResult result (λ got. Gathered self.old.limits text.now got self.new.roads.now self.new.points.now) (λ e. files_in self.old.limits text.now ≡ Err e) }
         ensures same_reader { SameReader self.old self.new }
     {
-        let mut line = 1;
-        for front in Lines(text) {
-            self.take_line(front, line)?;
-            line += 1;
+        for (index, front) in Lines(text).enumerate() {
+            self.take_line(front, index + 1)?;
         }
-        self.finish(line)
+        self.finish(text)
     }
 }

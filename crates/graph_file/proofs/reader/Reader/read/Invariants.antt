@@ -4,11 +4,12 @@ use Rattle.graph_file.specs.Frames.{SameReader}
 use Rattle.graph_file.specs.Gathering.{Reading}
 use Rattle.numeral.specs.Texts.{lines}
 
-abbrev pub invariant-loop-front : goal.invariant-loop-front
-invariant-loop-front l =
-    let rest = l.front-iterator.0.now in
+abbrev pub invariant-loop-index : goal.invariant-loop-index
+invariant-loop-index l =
+    let rest = l.index-iterator.iter.0.now in
+    let read = l.index-iterator.count in
     record {
       same : SameReader l.initial.self l.self;
-      counts : l.line + length (lines rest) ≡ length (lines l.text) + 1;
-      reading : Reading l.self.limits l.text l.line rest l.self.progress l.self.roads.now l.self.points.now;
+      counts : read + length (lines rest) ≡ length (lines l.text);
+      reading : Reading l.self.limits l.text (read + 1) rest l.self.progress l.self.roads.now l.self.points.now;
     }
