@@ -4,6 +4,9 @@ ghost use Rattle.network.specs.Net.{Net};
 use network::Network;
 use runs::RoadOf;
 
+// One slice goes by its items, the other by index: `iter_mut().zip(..)` was tried in both functions that write, and a proof
+// knows nothing of what it leaves in the slices.
+
 /// Turns arrivals at a road's tail into arrivals at its head, and writes these with `late` minutes more beside them.
 pub fn cross_each<N: Network>(road: &RoadOf<'_, N>, late: u32, lo: &mut [u32], up: &mut [u32])
     requires late { late ≤ 10000 }
