@@ -54,6 +54,8 @@ fn read_files(
     reader.read(text)
 }
 
+// The tables come as two slices, as they are lent to `load`: its `Reader` ends before its `Tables` begins.
+
 /// Loads into empty tables; after a refusal anything may stand in them.
 fn attempt(
     text: &[u8],
