@@ -75,13 +75,16 @@ fn read_arc(line: &[u8]) -> Option<Arc>
 pub fn read_line(line: &[u8]) -> Statement
     ensures says_line { result ≡ capped (said line.now) }
 {
-    match line {
-        [b'c', ..] => Statement::Comment,
-        [b'p', ..] => match read_problem(line) {
+    let [first, ..] = line else {
+        return Statement::Broken;
+    };
+    match char::from(*first) {
+        'c' => Statement::Comment,
+        'p' => match read_problem(line) {
             Some((nodes, roads)) => Statement::Problem(nodes, roads),
             None => Statement::BrokenProblem,
         },
-        [b'a', ..] => match read_arc(line) {
+        'a' => match read_arc(line) {
             Some(arc) => Statement::Crossing(arc),
             None => Statement::Broken,
         },
