@@ -13,6 +13,8 @@ pub struct RoadOf<'n, N: Network> {
     ghost is_one: { road < (N.Network.means net.now).roads },
 }
 
+// The two ends of a road are two questions to a network, and `tail` and `head` are one line over one of them each.
+
 impl<N: Network> RoadOf<'_, N> {
     /// The node at which it begins.
     pub fn tail(&self) -> u32
