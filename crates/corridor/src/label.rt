@@ -16,6 +16,7 @@ impl Bounds<'_> {
     pub fn label(&self, out: &mut [Point]) -> Result<usize, Full>
         ensures written_or_each_longer { MatchResult result (λ n. Written self.now.lo.now self.now.up.now out.old out.new n) (λ _. (ps : List Point) → Label self.now.lo.now self.now.up.now ps → length out.old < length ps) }
     {
+        let places = out.len();
         let mut point = Point {
             departure: 0,
             arrival: self.lo[0],
@@ -24,6 +25,10 @@ impl Bounds<'_> {
             *place = point;
             if point.departure as usize + 1 == self.lo.len() {
                 return Ok(index + 1);
+            }
+            // No minute is scanned for a point that has no place.
+            if index + 1 == places {
+                return Err(Full);
             }
             point = next_point(self, point);
         }

@@ -4,7 +4,7 @@ use Rattle.std.proofs.lemmas.List.{length-set, take_all}
 use Rattle.curve.specs.declared.points.Point.{Point}
 use Rattle.corridor.specs.Curves.{curve_of, last}
 use Rattle.corridor.specs.Laws.{Begins}
-use Rattle.corridor.proofs.Labels.{written_more, written_all, written_short}
+use Rattle.corridor.proofs.Labels.{written_more, written_all, written_full, written_short}
 use Rattle.corridor.proofs.bounds.Bounds.label.Goals as goal
 
 pub returns-then-point-self : goal.returns-then-point-self
@@ -17,6 +17,13 @@ returns-then-point-self c =
         label = written_all _ _ c.args.self.now.curves out i _ (omega arith) c.loop-index.invariant.0 c.if-point-self.true;
         rest = grind (arith, common_steps);
       };
+    }
+
+pub returns-then-index-places : goal.returns-then-index-places
+returns-then-index-places c =
+    record {
+      written_or_each_longer = λ ps label.
+          omega (arith, written_full _ _ c.args.self.now.curves c.loop-index.out c.loop-index.index _ (omega arith) c.loop-index.invariant.0 c.loop-index.invariant.1 c.if-point-self.false ps label);
     }
 
 pub loop-index-preserved : goal.loop-index-preserved
