@@ -1,5 +1,5 @@
 -- The laws of reading a run of points.
-use Rattle.std.specs.Prelude.{◌≡◌, ℕ, zero, suc, ◌+◌, ◌<◌, ◌≤◌, Bool, true, cond, List, [], ◌∷◌, length, get_or, nat_lt, slice_index_or, refl}
+use Rattle.std.specs.Prelude.{◌≡◌, ℕ, zero, suc, ◌+◌, ◌<◌, ◌≤◌, Bool, true, cond, List, [], ◌∷◌, length, get_or, nat_lt, slice_index_or, drop, refl}
 use Rattle.std.proofs.Common.{sym, ap, subst, ◌∙◌, arith, le_trans, not-suc-le-zero, lt-ltb, le-ltb}
 use Rattle.std.proofs.lemmas.Bool.{cond_both, ltb-true, ltb-false, leb-true, and_parts, and_from}
 use Rattle.std.proofs.lemmas.List.{get_or_default}
@@ -118,6 +118,12 @@ climbing_from_pairs (p ∷ (q ∷ qs)) f =
 
 pub rises_at : (ps : List Point) (i : ℕ) → climbing ps ≡ true → i + 1 < length ps → ((get_or ps i no_point).departure < (get_or ps (i + 1) no_point).departure) × ((get_or ps i no_point).arrival ≤ (get_or ps (i + 1) no_point).arrival)
 rises_at ps i e h = climbs_tells (slice_index_or ps i no_point) (slice_index_or ps (i + 1) no_point) (climbs_at ps i e h)
+
+-- the points after the first climb too
+pub climbing_after : (ps : List Point) → climbing ps ≡ true → climbing (drop 1 ps) ≡ true
+climbing_after [] e = e
+climbing_after (p ∷ []) e = e
+climbing_after (p ∷ (q ∷ qs)) e = (climbing_tells p q qs e).1
 
 -- no point sets out before one that stands before it
 pub departures_rise : (ps : List Point) → climbing ps ≡ true → IsNonDecreasingBy (λ (p : Point). p.departure) ps

@@ -34,7 +34,8 @@ impl<'p> Run<'p> {
         requires begins { (slice_index_or self.now.points.now 0 no_point).departure ≤ x }
         ensures last { IsLastBy self.now.points.now result x }
     {
-        self.points.partition_point(|p| p.departure <= x) - 1
+        // The first point is one of them, so that a search tries only those after it.
+        self.points[1..].partition_point(|p| p.departure <= x)
     }
 
     /// The last point that sets out at `x` or before, where `i` was the last a minute earlier.
