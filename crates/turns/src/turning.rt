@@ -35,8 +35,9 @@ fn pass<N: Network, L: WorkList>(
     ensures passed_or_full { MatchResult result (λ _. Steps L.WorkList.work (N.Network.means sheet.old.net.now) node road (told sheet.old) (told sheet.new)) (λ _. Blocked (N.Network.means sheet.old.net.now) node road (told sheet.old) (told sheet.new)) }
 {
     let net = sheet.net;
-    let tail = RoadOf { net, road }.tail();
-    if sheet.marks[road as usize] != 0 || tail != node {
+    let way = RoadOf { net, road };
+    // A road that is shut is not asked for its tail.
+    if sheet.marks[road as usize] != 0 || way.tail() != node {
         return Ok(());
     }
     relax(sheet, road)
