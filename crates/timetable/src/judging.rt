@@ -1,8 +1,7 @@
 //! Whether figures and intervals are right for a timetabled road.
 
-ghost use Rattle.std.specs.List.{IsAllAdjacentAnswer, list_all};
-ghost use Rattle.std.specs.Prelude.{◌≡◌, Bool, nat_lt};
-ghost use Rattle.timetable.specs.declared.tables.Interval.{Interval};
+ghost use Rattle.std.specs.List.{list_all, zip};
+ghost use Rattle.std.specs.Prelude.{◌≡◌, ◌&&◌, nat_lt};
 ghost use Rattle.timetable.specs.Timetables.{ascending, lies_within, timed};
 
 use super::tables::{Interval, TimedRoad};
@@ -10,25 +9,28 @@ use super::tables::{Interval, TimedRoad};
 /// The longest period, and the longest crossing time.
 const LONGEST: u32 = 5_000;
 
-/// Whether each interval closes within the period, no earlier than it opens.
-fn are_within(run: &[Interval], period: u32) -> bool
-    ensures as_ruled { result ≡ list_all (lies_within period) run.now }
+/// Whether an interval closes within the period, no earlier than it opens.
+fn is_within(i: Interval, period: u32) -> bool
+    ensures as_ruled { result ≡ lies_within period i }
 {
-    run.iter().all(|i| i.opens <= i.closes && i.closes < period)
+    i.opens <= i.closes && i.closes < period
 }
 
-/// Whether each interval opens after the one before has closed.
-fn are_apart(run: &[Interval]) -> bool
-    ensures as_ruled { IsAllAdjacentAnswer (λ (i j : Interval) (b : Bool). b ≡ nat_lt i.closes j.opens) run.now result }
+/// Whether each interval of the second run lies in the period, and opens after the one beside it has closed.
+fn are_followed(run: &[Interval], next: &[Interval], period: u32) -> bool
+    ensures as_ruled { result ≡ list_all (λ p. nat_lt p.0.closes p.1.opens && lies_within period p.1) (zip run.now next.now) }
 {
-    run.is_sorted_by(|i, next| i.closes < next.opens)
+    run.iter().zip(next).all(|(i, next)| i.closes < next.opens && is_within(*next, period))
 }
 
-/// Whether intervals lie in the period, each after the one before.
+/// Whether intervals lie in the period, each after the one before; told at the first that breaks the rule.
 pub fn is_ascending(run: &[Interval], period: u32) -> bool
     ensures as_ruled { result ≡ ascending period 0 run.now }
 {
-    are_within(run, period) && are_apart(run)
+    match run {
+        [] => true,
+        [first, rest @ ..] => is_within(*first, period) && are_followed(run, rest, period),
+    }
 }
 
 /// Whether a road's period and crossing time are in range.
