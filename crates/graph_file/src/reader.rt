@@ -97,16 +97,15 @@ impl Reader<'_> {
         }
     }
 
-    /// What all lines of the text give; an end that comes too early is refused one line past the last.
-    fn finish(&self, text: &[u8]) -> Result<Loaded, Refusal>
-        ensures finishes { result ≡ end_of self.now.progress (length (lines text.now) + 1) }
+    /// What all lines give; an end that comes too early is refused at the line past the last.
+    fn finish(&self, line: usize) -> Result<Loaded, Refusal>
+        ensures finishes { result ≡ end_of self.now.progress line }
     {
         match self.progress {
             Some(Progress { loaded, done }) if done == loaded.roads => Ok(loaded),
-            // Counting the lines goes over the text once more, but only for this refusal.
             progress => Err(Refusal::Text(Line {
                 file: progress.map_or(1, |progress| progress.loaded.files),
-                line: Lines(text).count() + 1,
+                line,
             })),
         }
     }
@@ -129,9 +128,11 @@ impl Reader<'_> {
         ensures reads_files { MatchResult result (λ got. Gathered self.old.limits text.now got self.new.roads.now self.new.points.now) (λ e. files_in self.old.limits text.now ≡ Err e) }
         ensures same_reader { SameReader self.old self.new }
     {
+        let mut last = 0;
         for (index, front) in Lines(text).enumerate() {
-            self.take_line(front, index + 1)?;
+            last = index + 1;
+            self.take_line(front, last)?;
         }
-        self.finish(text)
+        self.finish(last + 1)
     }
 }

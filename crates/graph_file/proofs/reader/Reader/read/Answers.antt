@@ -27,15 +27,18 @@ loop-index-preserved c =
     let r = turned self.limits self.progress now.progress self.roads.now now.roads.now self.points.now now.points.now (c.loop-index.index-iterator.count + 1) c.args.text.now c.loop-index.index-iterator.iter.0.now c.in-Some.front.now c.next.new.self.iter.0.now self.within self.fit steps.0 c.loop-index.invariant.reading e.takes in
     record {
       same = search rules;
+      last = omega (arith, steps.2);
       counts = omega (arith, c.loop-index.invariant.counts, ap length steps.0, steps.2);
       reading = rw (e.same_reader.limits, steps.2) r;
     }
+
+pub overflow_add-last-2 : goal.overflow_add-last-2
+overflow_add-last-2 c = omega (arith, lines_few c.args.text.now, c.loop-index.invariant.counts, c.loop-index.invariant.last)
 
 pub returns-clause-reads_files : goal.returns-clause-reads_files
 returns-clause-reads_files c =
     let self = c.loop-index.self in
     let all = c.in-None.ensures.steps.0.0 in
     let read = c.loop-index.index-iterator.count in
-    let counted : length (lines c.args.text.now) ≡ read = omega (arith, c.loop-index.invariant.counts, ap length all) in
-    let f = finished self.limits self.progress (read + 1) self.roads.now self.points.now c.args.text.now c.loop-index.index-iterator.iter.0.now c.finish.result self.within c.loop-index.invariant.reading all (c.finish.ensures.finishes ∙ ap (λ k. end_of self.progress (k + 1)) counted) in
+    let f = finished self.limits self.progress (read + 1) self.roads.now self.points.now c.args.text.now c.loop-index.index-iterator.iter.0.now c.finish.result self.within c.loop-index.invariant.reading all (c.finish.ensures.finishes ∙ ap (λ k. end_of self.progress (k + 1)) c.loop-index.invariant.last) in
     rw c.loop-index.invariant.same.limits at f

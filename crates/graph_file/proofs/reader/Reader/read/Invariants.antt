@@ -10,6 +10,7 @@ invariant-loop-index l =
     let read = l.index-iterator.count in
     record {
       same : SameReader l.initial.self l.self;
+      last : l.last ≡ read;
       counts : read + length (lines rest) ≡ length (lines l.text);
       reading : Reading l.self.limits l.text (read + 1) rest l.self.progress l.self.roads.now l.self.points.now;
     }
