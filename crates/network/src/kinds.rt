@@ -13,6 +13,8 @@ pub trait TableRoad: Copy {
 
     ghost kind: { Kind Self Self.Entry };
 
+    ghost lawful: { LawfulKind kind };
+
     /// The node at which the road begins.
     fn tail(&self) -> u32
         ensures tail_as_meant { result ≡ kind.tail self.now };
@@ -35,8 +37,6 @@ pub trait TableRoad: Copy {
         requires kept { Kept kind entries.now self.now }
         requires early { x ≤ 20461440 }
         ensures cross_as_meant { result ≡ kind.cross entries.now self.now x };
-
-    ghost lawful: { LawfulKind kind };
 }
 
 /// A network over lent tables that keep their rule.
@@ -113,6 +113,8 @@ impl<'r, 'e, R: TableRoad> Tables<'r, 'e, R> {
 impl<R: TableRoad> Network for Tables<'_, '_, R> {
     ghost means = { λ s. meant R.TableRoad.kind s.nodes s.roads.now s.entries.now };
 
+    ghost lawful = { λ s. tables_lawful R.TableRoad.kind s.nodes s.roads.now s.entries.now R.TableRoad.lawful s.accepted };
+
     fn nodes(&self) -> u32 {
         self.nodes
     }
@@ -140,6 +142,4 @@ impl<R: TableRoad> Network for Tables<'_, '_, R> {
         }
         Some(road.cross(self.entries, x))
     }
-
-    ghost lawful = { λ s. tables_lawful R.TableRoad.kind s.nodes s.roads.now s.entries.now R.TableRoad.lawful s.accepted };
 }

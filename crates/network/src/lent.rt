@@ -5,6 +5,8 @@ use super::meaning::Network;
 impl<N: Network> Network for &N {
     ghost means = { λ s. N.Network.means s.now };
 
+    ghost lawful = { λ s. N.Network.lawful s.now };
+
     fn nodes(&self) -> u32 {
         (**self).nodes()
     }
@@ -28,6 +30,4 @@ impl<N: Network> Network for &N {
     fn cross(&self, r: u32, x: u32) -> Option<u32> {
         (**self).cross(r, x)
     }
-
-    ghost lawful = { λ s. N.Network.lawful s.now };
 }

@@ -17,6 +17,9 @@ pub const LAST_MINUTE: u32 = 20_461_440;
 pub trait Network {
     ghost means: { Self → Net };
 
+    // Above the functions, where a clause and a caller of a trait object can use it too.
+    ghost lawful: { (s : Self) → Lawful (means s) };
+
     /// How many nodes there are.
     fn nodes(&self) -> u32
         ensures nodes_as_meant { result ≡ (means self.now).nodes };
@@ -41,6 +44,4 @@ pub trait Network {
     /// or `x` is over 20,461,440.
     fn cross(&self, r: u32, x: u32) -> Option<u32>
         ensures cross_as_meant { result ≡ crossing (means self.now) r x };
-
-    ghost lawful: { (s : Self) → Lawful (means s) };
 }

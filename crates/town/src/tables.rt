@@ -83,9 +83,9 @@ pub const POINTS: [Point; 8] = [
 
 /// The town as a network.
 pub fn town() -> Tabulated<'static, 'static>
-    ensures its_nodes { result.nodes ≡ 4 }
-    ensures its_roads { result.roads.now ≡ town_roads }
-    ensures its_points { result.entries.now ≡ town_points }
+    ensures its_nodes { result.tables.nodes ≡ 4 }
+    ensures its_roads { result.tables.roads.now ≡ town_roads }
+    ensures its_points { result.tables.entries.now ≡ town_points }
 {
     Tabulated::new(NODES, &ROADS, &POINTS)
 }

@@ -36,7 +36,7 @@ fn begin(
     list: &mut Fifo,
     places: u32,
 ) -> Result<Heading, Refusal>
-    ensures begun { IfOk result (λ h. h.figures ≡ with_origin (plain (tabulated net.now.nodes net.now.roads.now net.now.entries.now) 60 places 1000) 0) }
+    ensures begun { IfOk result (λ h. h.figures ≡ with_origin (plain (tabulated net.now.tables.nodes net.now.tables.roads.now net.now.tables.entries.now) 60 places 1000) 0) }
 {
     let mut heading = rule(net, rows, marks, list, WINDOW, places, ALLOWANCE)?;
     origin(net, &mut heading, rows, marks, list, ORIGIN)?;

@@ -28,6 +28,6 @@ returns g c =
       originated = record { node = node; heading = set; marks = refl; restarted = anew };
       fits = restarted_fits _ _ f c.args.rows.now c.args.marks.now c.args.list.now v _ (state c.set_origin.new.self.figures c.restart.new.rows c.args.marks.now c.restart.new.list)
           (right_tells f c.args.heading.now.lawful) node parts.roomy.rows (record { nodes = parts.agree.nodes; roads = parts.agree.roads; bound = bound }) set parts.roomy.marks parts.formed.marked anew;
-      begins_even = restarted_even g.L.WorkList.work g.met.L.WorkList.orderly _ (g.met.N.Network.lawful c.args.net.now) _ v (state c.set_origin.new.self.figures c.restart.new.rows c.args.marks.now c.restart.new.list) parts.agree.nodes (ap (λ (q : Figures). q.places) set) anew;
+      begins_even = restarted_even g.L.WorkList.work g.met.L.WorkList.orderly _ (g.N.Network.lawful c.args.net.now) _ v (state c.set_origin.new.self.figures c.restart.new.rows c.args.marks.now c.restart.new.list) parts.agree.nodes (ap (λ (q : Figures). q.places) set) anew;
       refused_keeps_all = tt;
     }

@@ -21,7 +21,7 @@ returns g c =
     let held = c.new-heading.ensures.figures_as_given ∙ same in
     let many = ap (λ (q : Figures). q.nodes) (c.figures-2.ensures.figures_held ∙ held) in
     let cleared = granted _ c.clear-cleared.result c.clear-cleared.ensures.clears_or_refuses
-    (λ e x. let few = (g.met.N.Network.lawful c.args.net.now).few in let some = (g.met.N.Network.lawful c.args.net.now).some in omega (arith, x.fault (omega (arith, many, some)), many, few)) in
+    (λ e x. let few = (g.N.Network.lawful c.args.net.now).few in let some = (g.N.Network.lawful c.args.net.now).some in omega (arith, x.fault (omega (arith, many, some)), many, few)) in
     let is : Ruled g.L.WorkList.work f rows marks c.args.list.now s = record {
       heading = held;
       rows = c.clear_rows.ensures.rows_cleared ∙ ap (λ (q : Figures). blank_rows q rows) held;

@@ -16,7 +16,7 @@ pub returns-clause-settles : goal.returns-clause-settles
 returns-clause-settles g c =
     let h = c.args.heading.now in
     let parts = fit c.in_ok-judge.ensures.judged in
-    work_settles g.L.WorkList.work g.met.L.WorkList.orderly _ (g.met.N.Network.lawful c.args.net.now) _ c.args.count c.turns.result.0 c.turns.result.1 _ (readied (right_tells h.figures h.lawful) parts) (search rules)
+    work_settles g.L.WorkList.work g.met.L.WorkList.orderly _ (g.N.Network.lawful c.args.net.now) _ c.args.count c.turns.result.0 c.turns.result.1 _ (readied (right_tells h.figures h.lawful) parts) (search rules)
 
 pub returns-clause-fits : goal.returns-clause-fits
 returns-clause-fits g c =
