@@ -18,7 +18,7 @@ added a b = cond (is_some (join_fault a b)) 0 b.roads
 
 -- the part that has the road r, and r's number there; none where there is no such road
 abbrev pub place : Net → Net → ℕ → Option Place
-place a b r = cond (nat_lt r a.roads) (Some (First r)) (cond (nat_lt r (a.roads + added a b)) (Some (Second (r - a.roads))) None)
+place a b r = cond (nat_lt r a.roads) (Some (First r)) (cond (nat_lt (r - a.roads) (added a b)) (Some (Second (r - a.roads))) None)
 
 abbrev pub part : ℕ → (ℕ → ℕ) → (ℕ → ℕ) → ℕ → ℕ
 part m f g r = cond (nat_lt r m) (f r) (g (r - m))

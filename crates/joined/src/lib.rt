@@ -2,10 +2,10 @@
 
 #![tactic(auto)]
 
-ghost use Rattle.joined.specs.Joining.{join, join_fault, place};
+ghost use Rattle.joined.specs.Joining.{added, join, join_fault, place};
 ghost use Rattle.joined.specs.Joins.{JoinLaws, join_lawful};
 ghost use Rattle.refusal.specs.Refusals.{refusal};
-ghost use Rattle.std.specs.Prelude.{◌≡◌, IfOk, None};
+ghost use Rattle.std.specs.Prelude.{◌≡◌, IfOk};
 
 use network::{MOST_ROADS, Network};
 use refusal::{Line, Refusal};
@@ -18,11 +18,12 @@ enum Place {
 }
 
 /// The roads of one network, then those of another with the same nodes.
+// The type does not say that the parts fit: it would need a bound on each of them, and so would every type that keeps a
+// join. So each question tests it.
 #[derive(Drop)]
-pub struct Joined<P: Network, Q: Network> {
+pub struct Joined<P, Q> {
     first: P,
     second: Q,
-    ghost fits: { join_fault (P.Network.means first) (Q.Network.means second) ≡ None },
 }
 
 impl<P: Network + Drop, Q: Network + Drop> Joined<P, Q> {
@@ -42,6 +43,19 @@ impl<P: Network + Drop, Q: Network + Drop> Joined<P, Q> {
 }
 
 impl<P: Network, Q: Network> Joined<P, Q> {
+    /// The roads that the second adds: all of them, and none where the two may not be joined.
+    fn added_roads(&self) -> u32
+        ensures as_joined { result ≡ added (P.Network.means self.now.first) (Q.Network.means self.now.second) }
+    {
+        if self.first.nodes() == self.second.nodes()
+            && self.first.roads() + self.second.roads() <= MOST_ROADS
+        {
+            self.second.roads()
+        } else {
+            0
+        }
+    }
+
     /// Where the road `r` comes from; none exactly where there is no such road.
     fn place(&self, r: u32) -> Option<Place>
         ensures as_joined { result ≡ place (P.Network.means self.now.first) (Q.Network.means self.now.second) r }
@@ -49,7 +63,7 @@ impl<P: Network, Q: Network> Joined<P, Q> {
         let m = self.first.roads();
         if r < m {
             Some(Place::First(r))
-        } else if r < self.roads() {
+        } else if r - m < self.added_roads() {
             Some(Place::Second(r - m))
         } else {
             None
@@ -60,12 +74,14 @@ impl<P: Network, Q: Network> Joined<P, Q> {
 impl<P: Network, Q: Network> Network for Joined<P, Q> {
     ghost means = { λ s. join (P.Network.means s.first) (Q.Network.means s.second) };
 
+    ghost lawful = { λ s. join_lawful _ _ (P.Network.lawful s.first) (Q.Network.lawful s.second) };
+
     fn nodes(&self) -> u32 {
         self.first.nodes()
     }
 
     fn roads(&self) -> u32 {
-        self.first.roads() + self.second.roads()
+        self.first.roads() + self.added_roads()
     }
 
     // One function that takes a closure for each part is no plainer: its contract speaks of the calls of both
@@ -97,8 +113,6 @@ impl<P: Network, Q: Network> Network for Joined<P, Q> {
             Place::Second(k) => self.second.cross(k, x),
         }
     }
-
-    ghost lawful = { λ s. join_lawful _ _ (P.Network.lawful s.first) (Q.Network.lawful s.second) };
 }
 
 /// A join has the roads of the first, then those of the second, and a join of lawful networks is lawful.
