@@ -1,4 +1,6 @@
+ghost use Rattle.keyed.specs.Order.{node_cmp};
 ghost use Rattle.std.proofs.Common.{rules};
+ghost use Rattle.std.specs.Cmp.Rules.{comparing};
 
 use queue::Entry;
 
@@ -10,5 +12,13 @@ pub struct KeyedNode {
 }
 
 impl Entry for KeyedNode {
+    ghost order = { node_cmp };
+
+    ghost total = { Prim.search (comparing, rules) };
+
     ghost same = { Prim.search rules };
+
+    fn comes_before(&self, other: &KeyedNode) -> bool {
+        self < other
+    }
 }

@@ -1,3 +1,3 @@
 mod Comparing
-mod Firsts
-mod Heaps
+pub mod Firsts
+pub mod Heaps

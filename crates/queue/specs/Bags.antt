@@ -1,14 +1,16 @@
 -- A queue is a bag of entries with room for so many; what a call does to it.
 use Rattle.std.specs.Prelude.{◌≡◌, ℕ, ◌<◌, List, [], ◌∷◌, length}
+use Rattle.std.specs.Borrow.{GName}
 use Rattle.std.specs.List.Sorted.{IsPermutation}
 use Rattle.std.specs.declared.cmp.Ordering.{Ordering}
 use Rattle.queue.specs.Orders.{Least}
 
--- the entries, in no promised order, how many fit, and what the slots hold that are not taken
+-- the entries, in no promised order, how many fit, what the slots hold that are not taken, and which loan the slots are
 pub record Bag (X : Type 0) : Type 0 where
   pub entries : List X
   pub room : ℕ
   pub spare : List X
+  pub loan : GName
 
 -- p has the entries of q and x
 pub record Gains {X : Type 0} (q : Bag X) (x : X) (p : Bag X) : Type 0 where

@@ -1,6 +1,9 @@
 ghost use Rattle.std.specs.Prelude.{◌≡◌, ◌==◌, [], length, MatchOption, MatchResult};
 ghost use Rattle.queue.specs.Orders.{First};
 ghost use Rattle.queue.specs.Bags.{Gains, Refuses, Loses, Lacks};
+ghost use Rattle.std.proofs.Common.{rules};
+ghost use Rattle.std.specs.Cmp.Rules.{comparing};
+ghost use Rattle.std.specs.Ordering.{nat_cmp, on, flip_args};
 
 use crate::Entry;
 use crate::sift::{sift_down, sift_up};
@@ -8,6 +11,7 @@ use std::marker::Model;
 
 /// A queue of entries in lent slots, the first by their order at the top of a heap.
 // A slice with a length beside it, and no `BinaryHeap`: the memory is lent, and nothing is allocated here.
+// The bound stands here too, since a model has the bounds of its struct, and this one names the order.
 #[derive(Debug, Drop)]
 pub struct Queue<'a, T: Entry> {
     slots: &'a mut [T],
@@ -22,9 +26,9 @@ impl<'a, T: Entry> Model for Queue<'a, T> {
 
     ghost Value = { Bag T };
 
-    ghost view = { λ q. record { entries = take q.len q.slots.now; room = length q.slots.now; spare = drop q.len q.slots.now } };
+    ghost view = { λ q. record { entries = take q.len q.slots.now; room = length q.slots.now; spare = drop q.len q.slots.now; loan = q.slots.ghost_name } };
 
-    ghost invariant = { λ q. (q.len ≤ length q.slots.now) × IsHeap (flip_args T.cmp) (take q.len q.slots.now) };
+    ghost invariant = { λ q. (q.len ≤ length q.slots.now) × IsHeap (flip_args T.order) (take q.len q.slots.now) };
 }
 
 impl<'a, T: Entry> Queue<'a, T> {
@@ -53,7 +57,7 @@ impl<'a, T: Entry> Queue<'a, T> {
 
     /// The entry that comes first, which stays.
     pub fn peek(&self) -> Option<T>
-        ensures first_or_none { MatchOption result (self.now.entries ≡ []) (λ x. First T.cmp x self.now.entries) }
+        ensures first_or_none { MatchOption result (self.now.entries ≡ []) (λ x. First T.order x self.now.entries) }
     {
         self.slots[..self.len].first().copied()
     }
@@ -75,7 +79,7 @@ impl<'a, T: Entry> Queue<'a, T> {
     /// Takes out the entry that comes first.
     pub fn pop(&mut self) -> Option<T>
         ensures room { self.new.room ≡ self.old.room }
-        ensures loses_or_lacks { MatchOption result (Lacks self.old self.new) (λ x. Loses T.cmp self.old x self.new) }
+        ensures loses_or_lacks { MatchOption result (Lacks self.old self.new) (λ x. Loses T.order self.old x self.new) }
     {
         let last = self.len.checked_sub(1)?;
         let first = self.slots[0];
@@ -103,9 +107,31 @@ mod tests {
     struct Height(u32);
 
     impl Entry for Height {
-        ghost use Rattle.std.proofs.Common.{rules};
+        ghost order = { on (λ h. h.0) nat_cmp };
+
+        ghost total = { Prim.search (comparing, rules) };
 
         ghost same = { Prim.search rules };
+
+        fn comes_before(&self, other: &Height) -> bool {
+            self < other
+        }
+    }
+
+    /// The highest comes out first, by an order apart from `Ord`.
+    #[derive(Clone, Copy, PartialEq, Eq, PartialOrd, Ord, Debug)]
+    struct Depth(u32);
+
+    impl Entry for Depth {
+        ghost order = { flip_args (on (λ d. d.0) nat_cmp) };
+
+        ghost total = { Prim.search (comparing, rules) };
+
+        ghost same = { Prim.search rules };
+
+        fn comes_before(&self, other: &Depth) -> bool {
+            other < self
+        }
     }
 
     #[test]
@@ -122,5 +148,17 @@ mod tests {
         assert_eq!(rt; queue.len(), 1);
         queue.clear();
         assert_eq!(rt; queue.pop(), None);
+    }
+
+    #[test]
+    fn order_apart_from_ord(rt: HostRuntime) {
+        let mut slots = [Depth(0); 3];
+        let mut queue = Queue::new(&mut slots);
+        assert_eq!(rt; queue.push(Depth(5)), Ok(()));
+        assert_eq!(rt; queue.push(Depth(7)), Ok(()));
+        assert_eq!(rt; queue.push(Depth(2)), Ok(()));
+        assert_eq!(rt; queue.pop(), Some(Depth(7)));
+        assert_eq!(rt; queue.pop(), Some(Depth(5)));
+        assert_eq!(rt; queue.pop(), Some(Depth(2)));
     }
 }

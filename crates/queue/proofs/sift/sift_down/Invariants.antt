@@ -9,7 +9,7 @@ abbrev pub invariant-loop-at : goal.invariant-loop-at
 invariant-loop-at g l = record {
   len : length l.heap ≡ length l.fn.heap;
   bag : IsPermutation l.fn.heap l.heap;
-  sinking : sifts.Sinking (flip_args g.T.Ord.cmp) (back_total g.met.T.Ord.total) l.fn.heap 0 (length l.fn.heap) l.heap l.at;
+  sinking : sifts.Sinking (flip_args g.T.Entry.order) (back_total g.met.T.Entry.total) l.fn.heap 0 (length l.fn.heap) l.heap l.at;
 }
 
 abbrev pub decreases-loop-at : goal.decreases-loop-at

@@ -10,7 +10,7 @@ invariant-loop-at g l = record {
   within : l.at < length l.heap;
   len : length l.heap ≡ length l.fn.heap;
   bag : IsPermutation l.fn.heap l.heap;
-  rising : sifts.Rising (flip_args g.T.Ord.cmp) (back_total g.met.T.Ord.total) l.fn.heap (length l.fn.heap - 1) l.heap l.at;
+  rising : sifts.Rising (flip_args g.T.Entry.order) (back_total g.met.T.Entry.total) l.fn.heap (length l.fn.heap - 1) l.heap l.at;
 }
 
 abbrev pub decreases-loop-at : goal.decreases-loop-at

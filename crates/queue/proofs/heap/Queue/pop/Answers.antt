@@ -8,7 +8,7 @@ invariant_of-self g c =
     let down = c.sift_down in
     let last = c.in_ok-last.last in
     let one : q.len ≡ last + 1 = omega (arith, c.in_ok-last.ensures) in
-    (pop_entry g.met.T.Ord.total q.slots.now down.new.heap last c.index-self-0.result c.index-self-last.result (rw one at c.self.invariant) c.index-self-0.is down.auto.heap down.ensures.ordered down.ensures.bag).heap
+    (pop_entry g.met.T.Entry.total q.slots.now down.new.heap last c.index-self-0.result c.index-self-last.result (rw one at c.self.invariant) c.index-self-0.is down.auto.heap down.ensures.ordered down.ensures.bag).heap
 
 pub returns-clause-loses_or_lacks : goal.returns-clause-loses_or_lacks
 returns-clause-loses_or_lacks g c =
@@ -16,5 +16,5 @@ returns-clause-loses_or_lacks g c =
     let down = c.sift_down in
     let last = c.in_ok-last.last in
     let one : q.len ≡ last + 1 = omega (arith, c.in_ok-last.ensures) in
-    let left = pop_entry g.met.T.Ord.total q.slots.now down.new.heap last c.index-self-0.result c.index-self-last.result (rw one at c.self.invariant) c.index-self-0.is down.auto.heap down.ensures.ordered down.ensures.bag in
+    let left = pop_entry g.met.T.Entry.total q.slots.now down.new.heap last c.index-self-0.result c.index-self-last.result (rw one at c.self.invariant) c.index-self-0.is down.auto.heap down.ensures.ordered down.ensures.bag in
     rw (← c.self.view_is, ← c.index-self-0.is, one) (record { least = left.least; bag = left.bag })

@@ -7,7 +7,7 @@ pub invariant_of-self : goal.invariant_of-self
 invariant_of-self g c =
     let q = c.self.inside in
     let up = c.sift_up in
-    (push_entry g.met.T.Ord.total q.slots.now up.new.heap q.len c.args.entry (omega arith) c.self.invariant up.auto.heap up.ensures.ordered up.ensures.bag).heap
+    (push_entry g.met.T.Entry.total q.slots.now up.new.heap q.len c.args.entry (omega arith) c.self.invariant up.auto.heap up.ensures.ordered up.ensures.bag).heap
 
 pub returns-clause-gains_or_refuses : goal.returns-clause-gains_or_refuses
 returns-clause-gains_or_refuses g c =
@@ -15,5 +15,5 @@ returns-clause-gains_or_refuses g c =
     let up = c.sift_up in
     rw (← c.self.view_is) (record {
       fits = omega (arith, length-take-le q.len q.slots.now c.self.invariant.0);
-      bag = (push_entry g.met.T.Ord.total q.slots.now up.new.heap q.len c.args.entry (omega arith) c.self.invariant up.auto.heap up.ensures.ordered up.ensures.bag).bag;
+      bag = (push_entry g.met.T.Entry.total q.slots.now up.new.heap q.len c.args.entry (omega arith) c.self.invariant up.auto.heap up.ensures.ordered up.ensures.bag).bag;
     })
