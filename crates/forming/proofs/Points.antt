@@ -1,11 +1,35 @@
--- The points of a row, pair by pair.
-use Rattle.std.proofs.Common.{ℕ, ◌<◌, ◌≤◌, Bool, true, false, List, [], length, map, get_or, ap, arith, MatchBool}
-use Rattle.std.proofs.lemmas.List.{get_or-map, length-map}
+-- The points of a row, number by number and pair by pair.
+use Rattle.std.proofs.Common.{◌≡◌, ℕ, zero, suc, ◌+◌, ◌*◌, ◌<◌, ◌≤◌, Bool, true, false, List, [], length, map, get_or, drop, sym, refl, ap, ◌∙◌, arith, MatchBool}
+use Rattle.std.proofs.lemmas.List.{get_or-drop, get_or-map, length-map}
 use Rattle.std.specs.List.{AllWithin, HoldsAt}
 use Rattle.curve.specs.declared.points.Point.{Point}
 use Rattle.curve.specs.Curve.{no_point}
-use Rattle.rows.specs.Rows.{point_of}
+use Rattle.rows.specs.Rows.{pairs, point_of, points}
 use Rattle.forming.specs.Parts.{Prompt}
+
+abbrev pair : ℕ → ℕ → Point
+pair d a = record { departure = d; arrival = a }
+
+pairs_at : (c i : ℕ) (xs : List ℕ) → i < c → get_or (pairs c xs) i no_point ≡ pair (get_or xs (2 * i) 0) (get_or xs (2 * i + 1) 0)
+unfolding pairs
+pairs_at zero i xs lt = absurd (omega (arith, lt))
+pairs_at (suc c) zero xs lt = refl
+pairs_at (suc c) (suc i) xs lt =
+    let e : 2 + 2 * i ≡ 2 * suc i = omega arith in
+    let f : 2 + (2 * i + 1) ≡ 2 * suc i + 1 = omega arith in
+    pairs_at c i (drop 2 xs) (omega arith)
+    ∙ ap (λ (a : ℕ). pair a (get_or (drop 2 xs) (2 * i + 1) 0)) (get_or-drop 2 xs (2 * i) 0 ∙ ap (λ (k : ℕ). get_or xs k 0) e)
+    ∙ ap (λ (a : ℕ). pair (get_or xs (2 * suc i) 0) a) (get_or-drop 2 xs (2 * i + 1) 0 ∙ ap (λ (k : ℕ). get_or xs k 0) f)
+
+-- the numbers of a row, two by two, are its points
+pub points_at : (row : List ℕ) (i : ℕ) → i < get_or row 0 0 → pair (get_or row (2 * i + 1) 0) (get_or row (2 * i + 2) 0) ≡ get_or (points row) i no_point
+unfolding points
+points_at row i lt =
+    let e : 2 * i + 1 ≡ 1 + 2 * i = omega arith in
+    let f : 2 * i + 2 ≡ 1 + (2 * i + 1) = omega arith in
+    ap (λ (a : ℕ). pair a (get_or row (2 * i + 2) 0)) (ap (λ (k : ℕ). get_or row k 0) e ∙ sym (get_or-drop 1 row (2 * i) 0))
+    ∙ ap (λ (a : ℕ). pair (get_or (drop 1 row) (2 * i) 0) a) (ap (λ (k : ℕ). get_or row k 0) f ∙ sym (get_or-drop 1 row (2 * i + 1) 0))
+    ∙ sym (pairs_at (get_or row 0 0) i (drop 1 row) lt)
 
 -- a pair arrives neither before its departure nor after limit
 abbrev pub Timely : ℕ → List ℕ → Type 0

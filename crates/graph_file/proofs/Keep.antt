@@ -22,7 +22,7 @@ push_other : (arcs : List Arc) (a : Arc) (k : ℕ) → (k ≡ length arcs → �
 push_other arcs a k ne = grind (arith, common_steps)
 
 -- one more arc, told in a table
-told : {X : Type 0} (f : Arc → X) (z : X) (arcs : List Arc) (a : Arc) (table : List X) (n : ℕ) → n ≡ length arcs → n < length table → ((k : ℕ) → get_or table k z ≡ f (get_or arcs k no_arc)) → (k : ℕ) → get_or (set table n (f a)) k z ≡ f (get_or (arcs ++ a ∷ []) k no_arc)
+pub told : {X : Type 0} (f : Arc → X) (z : X) (arcs : List Arc) (a : Arc) (table : List X) (n : ℕ) → n ≡ length arcs → n < length table → ((k : ℕ) → get_or table k z ≡ f (get_or arcs k no_arc)) → (k : ℕ) → get_or (set table n (f a)) k z ≡ f (get_or (arcs ++ a ∷ []) k no_arc)
 told f z arcs a table n e l h k = grind (arith, common_steps, push_other)
 
 -- the first file's arcs, with one more

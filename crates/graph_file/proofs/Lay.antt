@@ -24,7 +24,7 @@ all_arcs got arcs rs ps s kept = full got.roads got.files (length arcs) s kept.c
     full roads zero n s e = omega arith
     full roads (suc g) n s e = let p : suc g - 1 ≡ g = omega arith in omega (arith, e, ap (λ x. x * roads) p)
 
-points_laid : (roads files spacing : ℕ) (arcs : List Arc) (ps os qs : List Point) → length arcs ≡ roads * files → ((k : ℕ) → get_or ps k no_point ≡ weight_of (get_or arcs k no_arc)) → ((k : ℕ) → get_or os k no_point ≡ spread_to roads files spacing ps (roads * files) k) → ((k : ℕ) → get_or qs k no_point ≡ stamped_to files spacing os (roads * files) k) → (k : ℕ) → get_or qs k no_point ≡ cond (ltb k (roads * files)) (point (k % files * spacing) (arrival_of spacing roads arcs (k / files) (k % files))) no_point
+pub points_laid : (roads files spacing : ℕ) (arcs : List Arc) (ps os qs : List Point) → length arcs ≡ roads * files → ((k : ℕ) → get_or ps k no_point ≡ weight_of (get_or arcs k no_arc)) → ((k : ℕ) → get_or os k no_point ≡ spread_to roads files spacing ps (roads * files) k) → ((k : ℕ) → get_or qs k no_point ≡ stamped_to files spacing os (roads * files) k) → (k : ℕ) → get_or qs k no_point ≡ cond (ltb k (roads * files)) (point (k % files * spacing) (arrival_of spacing roads arcs (k / files) (k % files))) no_point
 points_laid roads files spacing arcs ps os qs n w f g k =
     let a = f k in
     let b = g k in
@@ -37,7 +37,7 @@ points_laid roads files spacing arcs ps os qs n w f g k =
 abbrev run : ℕ → ℕ → Road → Road
 run r files ends = record { tail = ends.tail; head = ends.head; first = r * files; count = files }
 
-roads_laid : (roads files : ℕ) (arcs : List Arc) (rs qs : List Road) → ((k : ℕ) → get_or rs k no_road ≡ ends_of (get_or (take roads arcs) k no_arc)) → ((r : ℕ) → get_or qs r no_road ≡ runs_to files rs roads r) → (r : ℕ) → get_or qs r no_road ≡ cond (ltb r roads) (run r files (ends_of (get_or arcs r no_arc))) no_road
+pub roads_laid : (roads files : ℕ) (arcs : List Arc) (rs qs : List Road) → ((k : ℕ) → get_or rs k no_road ≡ ends_of (get_or (take roads arcs) k no_arc)) → ((r : ℕ) → get_or qs r no_road ≡ runs_to files rs roads r) → (r : ℕ) → get_or qs r no_road ≡ cond (ltb r roads) (run r files (ends_of (get_or arcs r no_arc))) no_road
 roads_laid roads files arcs rs qs w g r =
     let a = g r in
     let b = w r in

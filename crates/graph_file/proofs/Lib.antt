@@ -2,6 +2,7 @@ pub mod Caps
 pub mod Keep
 pub mod Lay
 pub mod Passing
+pub mod Places
 pub mod Ruled
 pub mod Scan
 pub mod Turn

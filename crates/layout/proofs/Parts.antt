@@ -1,5 +1,5 @@
 -- One more line, and one more row.
-use Rattle.std.proofs.Common.{◌≡◌, ℕ, zero, suc, ◌+◌, ◌-◌, ◌<◌, ◌≤◌, List, [], ◌∷◌, ◌++◌, map, length, get_or, take, sym, ap, ◌∙◌, add-zero, arith}
+use Rattle.std.proofs.Common.{◌≡◌, ℕ, zero, suc, ◌+◌, ◌-◌, ◌*◌, ◌<◌, ◌≤◌, mul-le-mul_right, List, [], ◌∷◌, ◌++◌, map, length, get_or, take, sym, ap, ◌∙◌, add-zero, arith}
 use Rattle.curve.specs.Curve.{no_point}
 use Rattle.curve.specs.declared.points.Point.{Point}
 use Rattle.rows.specs.Rows.{point_of, points}
@@ -29,12 +29,16 @@ body_push node (q ∷ rs) r =
     rw e (ap (λ t. row_text node q ++ t) (body_push (node + 1) rs r) ∙ sym (append_assoc (row_text node q) (body_text (node + 1) rs) (row_text (node + 1 + length rs) r)))
 
 -- a text that grows piece by piece
-grows : (t s : ℕ → List ℕ) → ((k : ℕ) → t (k + 1) ≡ t k ++ s k) → (k m : ℕ) → length (t k) ≤ length (t (k + m))
+pub grows : (t s : ℕ → List ℕ) → ((k : ℕ) → t (k + 1) ≡ t k ++ s k) → (k m : ℕ) → length (t k) ≤ length (t (k + m))
 grows t s step k zero = rw add-zero (omega arith)
 grows t s step k (suc m) =
     let r = grows t s step k m in
     let e : k + suc m ≡ k + m + 1 = omega arith in
     rw (e, step (k + m), length-append) (omega arith)
+
+-- a row is inside the sheet
+pub row_inside : (v n width size : ℕ) → v < n → n * width ≤ size → v * width + width ≤ size
+row_inside v n width size l h = let m : (v + 1) * width ≤ n * width = mul-le-mul_right width (omega arith) in omega arith
 
 -- the lines of row v come after those of the rows before it, and fit where the whole body does
 module _ (cells : List ℕ) (width : ℕ) where

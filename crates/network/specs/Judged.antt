@@ -39,6 +39,9 @@ pub record Sized (n m : ℕ) : Type 0 where
   pub few : n ≤ 1024
   pub paved : m ≤ 4096
 
+pub sized_tells : (n m : ℕ) → sized n m ≡ true → Sized n m
+sized_tells n m e = record { some = grind (arith, nat_tests); few = grind (arith, nat_tests); paved = grind (arith, nat_tests) }
+
 -- what no fault tells
 module _ {A : Type 0} (n : ℕ) (f : A → Bool) (d : A) (roads : List A) (accepted : table_fault n (length roads) (lowest f roads) ≡ None) where
   pub sizes_right : Sized n (length roads)

@@ -38,7 +38,7 @@ pub points_from_each : (ps : List Point) → ((i : ℕ) → i < length ps → po
 points_from_each ps f = list_all-from_AllPass point_right ps (All-from_get_or (λ p. point_right p ≡ true) ps no_point f)
 
 -- the quickest point bounds every point
-fold_min_le : (l : ℕ) (xs : List ℕ) → fold min l xs ≤ l
+pub fold_min_le : (l : ℕ) (xs : List ℕ) → fold min l xs ≤ l
 fold_min_le l [] = omega arith
 fold_min_le l (x ∷ xs) = let r = fold_min_le (min l x) xs in omega arith
 

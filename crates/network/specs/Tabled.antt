@@ -39,7 +39,7 @@ roads_lawful n points road kept =
     }
 
 -- no road's least is less than it need be
-tables_attain : (n : ℕ) (roads : List Road) (points : List Point) → tables_fault n roads points ≡ None → (r : ℕ) → r < length roads → Attained (tabulated n roads points) r
+pub tables_attain : (n : ℕ) (roads : List Road) (points : List Point) → tables_fault n roads points ≡ None → (r : ℕ) → r < length roads → Attained (tabulated n roads points) r
 tables_attain n roads points accepted r h =
     let road = slice_index_or roads r no_road in
     let kept = road_right_at road_kind n roads points accepted r h in

@@ -22,11 +22,11 @@ lines_cut : (b : ℕ) (bs : List ℕ) → lines (b ∷ bs) ≡ by_cut (b ∷ bs)
 lines_cut b [] = turn b [] refl
 lines_cut b (x ∷ xs) = turn b (x ∷ xs) (ap (on_first b) (lines_cut x xs) ∙ first_on b (x ∷ xs) (cut 10 (x ∷ xs)))
 
-lines_some : (bs front after : List ℕ) → cut 10 bs ≡ Some (front, after) → lines bs ≡ front ∷ lines after
+pub lines_some : (bs front after : List ℕ) → cut 10 bs ≡ Some (front, after) → lines bs ≡ front ∷ lines after
 lines_some [] front after e = absurd (cc)
 lines_some (b ∷ bs) front after e = lines_cut b bs ∙ ap (by_cut (b ∷ bs)) e
 
-lines_none : (bs : List ℕ) → 0 < length bs → cut 10 bs ≡ None → lines bs ≡ bs ∷ []
+pub lines_none : (bs : List ℕ) → 0 < length bs → cut 10 bs ≡ None → lines bs ≡ bs ∷ []
 lines_none [] h e = absurd (omega arith)
 lines_none (b ∷ bs) h e = lines_cut b bs ∙ ap (by_cut (b ∷ bs)) e
 
@@ -44,7 +44,7 @@ cut_shorter [] = tt
 cut_shorter (b ∷ bs) =
     elim (eqb b 10) as (λ t. Shorter (b ∷ bs) (cond t (Some ([], bs)) (before b (cut 10 bs)))) [ true ↦ omega arith | false ↦ shorter_before b bs (cut 10 bs) (cut_shorter bs) ]
 
-after_shorter : (bs front after : List ℕ) → cut 10 bs ≡ Some (front, after) → length after < length bs
+pub after_shorter : (bs front after : List ℕ) → cut 10 bs ≡ Some (front, after) → length after < length bs
 after_shorter bs front after e = subst (Shorter bs) e (cut_shorter bs)
 
 -- the text up to the first line feed and the text after it, or the whole text and none

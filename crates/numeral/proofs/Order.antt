@@ -10,11 +10,11 @@ use Rattle.std.specs.declared.cmp.Ordering.TheVariants.{Less, Equal, Greater}
 use Rattle.std.specs.Str.{all_ascii_digits}
 use native.Mathlib.Nat.{pow-succ', pow-le-pow_right}
 
-digit_range : (c : ℕ) → is_ascii_digit c ≡ true → (48 ≤ c) × (c ≤ 57)
+pub digit_range : (c : ℕ) → is_ascii_digit c ≡ true → (48 ≤ c) × (c ≤ 57)
 digit_range c e = grind (arith, nat_tests)
 
 -- a number is below the next that has more in front
-below : (n : ℕ) (ds : List ℕ) → all_ascii_digits ds ≡ true → number_from n ds < (n + 1) * 10 ^ length ds
+pub below : (n : ℕ) (ds : List ℕ) → all_ascii_digits ds ≡ true → number_from n ds < (n + 1) * 10 ^ length ds
 below n [] e = omega arith
 below n (c ∷ cs) e =
     let p = and_parts (is_ascii_digit c) (all_ascii_digits cs) e in
@@ -24,7 +24,7 @@ below n (c ∷ cs) e =
     let m = mul-le-mul_right (10 ^ length cs) l in
     rw pow-succ' (rw (← mul_assoc (n + 1) 10 (10 ^ length cs)) (omega arith))
 
-above : (n : ℕ) (ds : List ℕ) → n * 10 ^ length ds ≤ number_from n ds
+pub above : (n : ℕ) (ds : List ℕ) → n * 10 ^ length ds ≤ number_from n ds
 above n [] = omega arith
 above n (c ∷ cs) =
     let r = above (10 * n + (c - 48)) cs in
@@ -81,7 +81,7 @@ plain ds e =
     record { some = grind (arith, nat_tests); first = λ l f. grind (arith, nat_tests); digits = q.1 }
 
 -- the longer is more
-shorter : (xs ys : List ℕ) → Plain xs → Plain ys → length xs < length ys → number_of xs < number_of ys
+pub shorter : (xs ys : List ℕ) → Plain xs → Plain ys → length xs < length ys → number_of xs < number_of ys
 shorter xs [] p q l = omega arith
 shorter xs (y ∷ ys) p q l =
     let f = and_parts (is_ascii_digit y) (all_ascii_digits ys) q.digits in

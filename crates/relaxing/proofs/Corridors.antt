@@ -83,7 +83,7 @@ module _ (net : Net) (laws : Lawful net) (f : Figures) (rows : List ℕ) (ready 
         let lab : label f rows' (net.head r) ≡ x.new = ap points x.rewritten.own ∙ laid_back f.places x.new in
         asked.low 0 (omega arith) ∙ sym (begins x.new rule) ∙ sym at_0 ∙ sym (ap (λ (ps : List Point). reads ps 0) lab)
 
-    relaxes_by : {L : Type 0} (w : Work L) (ms : List ℕ) (l l' : L) → w.puts l (net.head r) (get_or ls 0 0) l' → Relaxed w net (state f rows ms l) r (state f rows' ms l')
+    pub relaxes_by : {L : Type 0} (w : Work L) (ms : List ℕ) (l l' : L) → w.puts l (net.head r) (get_or ls 0 0) l' → Relaxed w net (state f rows ms l) r (state f rows' ms l')
     relaxes_by w ms l l' put = changed (record {
       needed = asked.needed;
       heading = refl;

@@ -5,5 +5,5 @@ pub mod Reading
 pub mod Rows
 pub mod Settling
 pub mod Steps
-mod Told
+pub mod Told
 pub mod Writing

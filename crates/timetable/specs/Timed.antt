@@ -35,11 +35,11 @@ timed_roads_lawful n intervals road kept =
     }
 
 module _ (n : ℕ) (roads : List TimedRoad) (intervals : List Interval) (accepted : tables_fault n roads intervals ≡ None) where
-  entered_at : (r x : ℕ) → r < length roads → Entered (get_or roads r no_road).period (run_of intervals (slice_index_or roads r no_road)) x (entry (get_or roads r no_road).period (run_of intervals (slice_index_or roads r no_road)) x)
+  pub entered_at : (r x : ℕ) → r < length roads → Entered (get_or roads r no_road).period (run_of intervals (slice_index_or roads r no_road)) x (entry (get_or roads r no_road).period (run_of intervals (slice_index_or roads r no_road)) x)
   entered_at r x h = road_entered n intervals (slice_index_or roads r no_road) (road_right_at timed_kind n roads intervals accepted r h) x
 
   -- whoever is at the road when it opens crosses it in its crossing time
-  timetables_attain : (r : ℕ) → r < length roads → Attained (timetabled n roads intervals) r
+  pub timetables_attain : (r : ℕ) → r < length roads → Attained (timetabled n roads intervals) r
   timetables_attain r h =
       let y = entry (get_or roads r no_road).period (run_of intervals (slice_index_or roads r no_road)) 0 in
       let there = (entered_at r 0 h).enters in
