@@ -1,5 +1,5 @@
 -- A queue is a bag of entries with room for so many; what a call does to it.
-use Rattle.std.specs.Prelude.{◌≡◌, ℕ, ◌<◌, List, [], ◌∷◌, length}
+use Rattle.std.specs.Prelude.{◌≡◌, ℕ, ◌+◌, ◌<◌, List, [], ◌∷◌, length}
 use Rattle.std.specs.Borrow.{GName}
 use Rattle.std.specs.List.Sorted.{IsPermutation}
 use Rattle.std.specs.declared.cmp.Ordering.{Ordering}
@@ -15,6 +15,7 @@ pub record Bag (X : Type 0) : Type 0 where
 -- p has the entries of q and x
 pub record Gains {X : Type 0} (q : Bag X) (x : X) (p : Bag X) : Type 0 where
   pub fits : length q.entries < q.room
+  pub len : length p.entries ≡ length q.entries + 1
   pub bag : IsPermutation (x ∷ q.entries) p.entries
 
 -- q is full: it stays as it was, and the entry x is handed back
@@ -25,6 +26,7 @@ pub record Refuses {X : Type 0} (q : Bag X) (x y : X) (p : Bag X) : Type 0 where
 
 -- p has the entries of q without x, which comes first
 pub record Loses {X : Type 0} (cmp : X → X → Ordering) (q : Bag X) (x : X) (p : Bag X) : Type 0 where
+  pub len : length p.entries + 1 ≡ length q.entries
   pub least : Least cmp x q.entries
   pub bag : IsPermutation q.entries (x ∷ p.entries)
 

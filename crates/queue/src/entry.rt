@@ -6,7 +6,7 @@ ghost use Rattle.std.specs.Cmp.{IsTotalOrder};
 ghost use Rattle.queue.specs.Orders.{OneFirst};
 
 /// What a queue can hold: values in a total order that tells any two apart.
-// Its own, beside `Ord`: who queues a type may want it in another order than it has for all else.
+// The order is the entry's own, apart from `Ord`: who queues a type may want it in another order than it has for all else.
 pub trait Entry: Copy {
     /// The order in which entries come out.
     ghost order: { Self → Self → Ordering };

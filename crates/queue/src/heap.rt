@@ -1,4 +1,4 @@
-ghost use Rattle.std.specs.Prelude.{◌≡◌, ◌==◌, [], length, MatchOption, MatchResult};
+ghost use Rattle.std.specs.Prelude.{◌≡◌, ◌≤◌, ◌==◌, [], length, MatchOption, MatchResult};
 ghost use Rattle.queue.specs.Orders.{First};
 ghost use Rattle.queue.specs.Bags.{Gains, Refuses, Loses, Lacks};
 ghost use Rattle.std.proofs.Common.{rules};
@@ -44,6 +44,7 @@ impl<'a, T: Entry> Queue<'a, T> {
     /// How many entries there are.
     pub fn len(&self) -> usize
         ensures count { result ≡ length self.now.entries }
+        ensures within { result ≤ self.now.room }
     {
         self.len
     }
