@@ -36,6 +36,13 @@ grows t s step k (suc m) =
     let e : k + suc m ≡ k + m + 1 = omega arith in
     rw (e, step (k + m), length-append) (omega arith)
 
+-- the piece after k fits where the whole does
+pub piece_fits : (t s : ℕ → List ℕ) → ((k : ℕ) → t (k + 1) ≡ t k ++ s k) → (k n : ℕ) → k < n → length (t k) + length (s k) ≤ length (t n)
+piece_fits t s step k n l =
+    let r = grows t s step (k + 1) (n - (k + 1)) in
+    let e : k + 1 + (n - (k + 1)) ≡ n = omega arith in
+    rw (e, step k, length-append) at r
+
 -- a row is inside the sheet
 pub row_inside : (v n width size : ℕ) → v < n → n * width ≤ size → v * width + width ≤ size
 row_inside v n width size l h = let m : (v + 1) * width ≤ n * width = mul-le-mul_right width (omega arith) in omega arith

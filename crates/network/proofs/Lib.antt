@@ -1,1 +1,2 @@
 pub mod Routing
+pub mod Walks

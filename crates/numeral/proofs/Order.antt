@@ -1,5 +1,5 @@
 -- Numbers in the order of their texts.
-use Rattle.std.proofs.Common.{◌≡◌, ℕ, ◌+◌, ◌-◌, ◌*◌, ◌^◌, ◌<◌, ◌≤◌, true, not, ◌&&◌, eqb, ltb, leb, List, [], ◌∷◌, length, get_or, Some, refl, sym, ap, inl, inr, mul-le-mul_right, mul_assoc, arith}
+use Rattle.std.proofs.Common.{◌≡◌, ℕ, zero, suc, ◌+◌, ◌-◌, ◌*◌, ◌^◌, ◌<◌, ◌≤◌, true, not, ◌&&◌, eqb, ltb, leb, List, [], ◌∷◌, length, get_or, Some, refl, sym, ap, inl, inr, mul-le-mul_right, mul_assoc, arith}
 use Rattle.numeral.specs.Decimals.{number_from, number_of, numeral}
 use Rattle.std.proofs.lemmas.Bool.{and_parts, cases_order}
 use Rattle.std.proofs.lemmas.Bool.Decides.{nat_tests}
@@ -40,6 +40,25 @@ more_in_front m n xs ys l e p =
     let o : m + 1 ≤ n = omega arith in
     let s = mul-le-mul_right (10 ^ length ys) o in
     omega arith
+
+-- the first digit that differs decides
+pub differ : (n : ℕ) (xs ys : List ℕ) (i : ℕ) → i < length xs → length xs ≡ length ys → all_ascii_digits xs ≡ true → all_ascii_digits ys ≡ true → ((k : ℕ) → k < i → get_or xs k 0 ≡ get_or ys k 0) → get_or xs i 0 < get_or ys i 0 → number_from n xs < number_from n ys
+differ n [] ys i l e p q h d = omega arith
+differ n (x ∷ xs) [] i l e p q h d = omega arith
+differ n (x ∷ xs) (y ∷ ys) zero l e p q h d =
+    let f = and_parts (is_ascii_digit x) (all_ascii_digits xs) p in
+    let g = digit_range x f.0 in
+    let len : length xs ≡ length ys = omega arith in
+    let b = rw len at (below (10 * n + (x - 48)) xs f.1) in
+    let a = above (10 * n + (y - 48)) ys in
+    let s : 10 * n + (x - 48) + 1 ≤ 10 * n + (y - 48) = omega arith in
+    let m = mul-le-mul_right (10 ^ length ys) s in
+    omega arith
+differ n (x ∷ xs) (y ∷ ys) (suc i) l e p q h d =
+    let f = and_parts (is_ascii_digit x) (all_ascii_digits xs) p in
+    let g = and_parts (is_ascii_digit y) (all_ascii_digits ys) q in
+    let same : x ≡ y = h 0 (omega arith) in
+    rw same (differ (10 * n + (y - 48)) xs ys i (omega arith) (omega arith) f.1 g.1 (λ k b. h (suc k) (omega arith)) d)
 
 -- digits of one length go in the order of their numbers
 same_length : (n : ℕ) (xs ys : List ℕ) → length xs ≡ length ys → all_ascii_digits xs ≡ true → all_ascii_digits ys ≡ true → slice_partial_cmp (λ x y. Some (nat_cmp x y)) xs ys ≡ Some (nat_cmp (number_from n xs) (number_from n ys))

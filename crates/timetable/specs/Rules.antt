@@ -6,7 +6,7 @@ use Rattle.std.proofs.lemmas.List.{length-drop, length-take-le, get_or-take, get
 use Rattle.std.proofs.lemmas.Bool.{and_parts, and_from, ltb-true, leb-true, lt-ltb, le-leb, and_left, and_right, both_ways, false_from_ne_true, cases_Bool, false≢true}
 use Rattle.std.proofs.lemmas.List.Elements.{All-from_get_or}
 use Rattle.std.proofs.lemmas.List.Sums.{AllPass-from_list_all, list_all-from_AllPass}
-use Rattle.std.specs.List.{list_all, zip}
+use Rattle.std.specs.List.{IsAllAdjacentAnswer, list_all, zip}
 use Rattle.timetable.specs.declared.tables.Interval.{Interval}
 use Rattle.timetable.specs.declared.tables.TimedRoad.{TimedRoad}
 use Rattle.timetable.specs.Timetables.{no_interval, ascending, lies_within, interval_of, KeepsRule, run_of, road_right}
@@ -69,6 +69,24 @@ ascending_from period from (v ∷ rest) low each apart =
     let s : suc i + 1 ≡ suc (i + 1) = omega arith in
     subst (λ (j : ℕ). (get_or rest i no_interval).closes < (get_or (v ∷ rest) j no_interval).opens) s (apart (suc i) (omega arith))))))
 
+pub each_within : (period : ℕ) (run : List Interval) → ascending period 0 run ≡ true → list_all (lies_within period) run ≡ true
+each_within period run e =
+    list_all-from_AllPass (lies_within period) run (All-from_get_or (λ v. lies_within period v ≡ true) run no_interval (λ i h.
+    let t = interval_at period 0 run i e h in and_from _ _ (le-leb _ _ t.0) (lt-ltb _ _ t.1)))
+
+-- intervals ascend exactly where each lies within the period and opens after the one before has closed
+pub ascending_answered : (period : ℕ) (run : List Interval) (apart : Bool) → IsAllAdjacentAnswer (λ i j b. b ≡ nat_lt i.closes j.opens) run apart → ascending period 0 run ≡ (list_all (lies_within period) run && apart)
+ascending_answered period run true told =
+    elim (cases_Bool (list_all (lies_within period) run)) [
+      | inl all ↦
+          let each : (i : ℕ) → i < length run → ((get_or run i no_interval).opens ≤ (get_or run i no_interval).closes) × ((get_or run i no_interval).closes < period) =
+          λ i h. let t = and_parts _ _ (AllPass-from_list_all (lies_within period) run all i no_interval h) in (leb-true _ _ t.0, ltb-true _ _ t.1) in
+          ascending_from period 0 run (λ h. omega arith) each (λ i h. ltb-true _ _ (sym (told i no_interval h))) ∙ sym (and_from _ _ all refl)
+      | inr some ↦ false_from_ne_true _ (λ e. both_ways _ some (each_within period run e)) ∙ sym (and_left _ _ some)
+    ]
+ascending_answered period run false told =
+    false_from_ne_true _ (λ e. false≢true (told.2 no_interval ∙ lt-ltb _ _ (apart_at period 0 run told.0 e told.1))) ∙ sym (and_right (list_all (lies_within period) run) false refl)
+
 -- of two intervals, the second lies within the period and opens after the first has closed
 abbrev pub follows : ℕ → Interval × Interval → Bool
 follows period p = nat_lt p.0.closes p.1.opens && lies_within period p.1
@@ -89,9 +107,9 @@ ascending_pairs period from v (w ∷ ws) =
     (regrouped (nat_le v.opens v.closes) (nat_lt v.closes period) (ascending period (v.closes + 1) (w ∷ ws)) ∙ ap (λ (b : Bool). lies_within period v && b) after)
 
 -- intervals ascend exactly where the first lies within the period and each other follows the one before
-pub ascending_answered : (period : ℕ) (run : List Interval) (d : Interval) → 0 < length run → ascending period 0 run ≡ (lies_within period (get_or run 0 d) && list_all (follows period) (zip run (take (length run - 1) (drop 1 run))))
-ascending_answered period [] d some = absurd (not-suc-le-zero some)
-ascending_answered period (v ∷ rest) d some =
+pub ascending_by_pairs : (period : ℕ) (run : List Interval) (d : Interval) → 0 < length run → ascending period 0 run ≡ (lies_within period (get_or run 0 d) && list_all (follows period) (zip run (take (length run - 1) (drop 1 run))))
+ascending_by_pairs period [] d some = absurd (not-suc-le-zero some)
+ascending_by_pairs period (v ∷ rest) d some =
     let all : take (length (v ∷ rest) - 1) rest ≡ rest = take_all (length (v ∷ rest) - 1) rest (omega arith) in
     ascending_pairs period 0 v rest
     ∙ ap (λ (b : Bool). b && (lies_within period v && list_all (follows period) (zip (v ∷ rest) rest))) (le-leb 0 v.opens (omega arith))

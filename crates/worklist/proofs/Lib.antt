@@ -2,3 +2,4 @@ mod Rings
 pub mod Marking
 mod Waiting
 mod Sets
+pub mod Whens

@@ -1,8 +1,7 @@
-use Rattle.std.proofs.Common.{◌≡◌, ◌+◌, ◌∙◌, length, ap, inl, rules, arith}
+use Rattle.std.proofs.Common.{◌+◌, ◌∙◌, length, ap, inl, rules, arith}
 use Rattle.graph_file.proofs.Turn.{finished, refused_line, turned}
 use Rattle.graph_file.proofs.reader.Reader.read.Goals as goal
 use Rattle.graph_file.specs.Files.{end_of}
-use Rattle.numeral.specs.Texts.{lines}
 use Rattle.numeral.proofs.FirstLine.{lines_few}
 use Rattle.std.proofs.lemmas.Grind.{common_steps}
 
