@@ -32,6 +32,7 @@ impl Bounds<'_> {
             }
             point = next_point(self, point);
         }
+        // There is no place at all.
         Err(Full)
     }
 }

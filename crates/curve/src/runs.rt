@@ -34,7 +34,7 @@ impl<'p> Run<'p> {
         requires begins { (slice_index_or self.now.points.now 0 no_point).departure ≤ x }
         ensures last { IsLastBy self.now.points.now result x }
     {
-        // The first point is one of them, so that a search tries only those after it.
+        // The first point sets out at `x` or before, so that only those after it are searched.
         self.points[1..].partition_point(|p| p.departure <= x)
     }
 

@@ -13,6 +13,7 @@ pub trait TableRoad: Copy {
 
     ghost kind: { Kind Self Self.Entry };
 
+    // Above the functions, since what a network of tables owes is made of it.
     ghost lawful: { LawfulKind kind };
 
     /// The node at which the road begins.
