@@ -54,7 +54,7 @@ const LONGEST_BOOK: usize = 65_536;
 
 /// Refuses a sheet that work has not settled.
 fn check_settled(outcome: Outcome) -> Result<(), Refusal>
-    ensures { refusal result ≡ unsettled outcome }
+    ensures refused_unless_settled { refusal result ≡ unsettled outcome }
 {
     match outcome {
         Outcome::Settled => Ok(()),

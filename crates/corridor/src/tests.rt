@@ -9,7 +9,7 @@ use curve::Point;
 
 /// Whether each height of `lo` is at most that of `up`, which is at most 1,000.
 fn are_ordered(lo: &[u32], up: &[u32]) -> bool
-    ensures { result ≡ list_all (λ p. nat_le p.0 p.1 && nat_le p.1 1000) (zip lo.now up.now) }
+    ensures in_order { result ≡ list_all (λ p. nat_le p.0 p.1 && nat_le p.1 1000) (zip lo.now up.now) }
 {
     lo.iter()
         .zip(up)

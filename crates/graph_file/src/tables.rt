@@ -83,7 +83,7 @@ impl Tables<'_> {
     /// Whether a later vehicle overtakes on a road.
     fn is_overtaken(&self, road: u32) -> bool
         requires { road < self.now.loaded.roads }
-        ensures { result ≡ falls_in (run_at self.now.points.now self.now.loaded.files road) }
+        ensures one_falls { result ≡ falls_in (run_at self.now.points.now self.now.loaded.files road) }
     {
         let files = self.loaded.files as usize;
         let first = road as usize * files;
@@ -93,7 +93,7 @@ impl Tables<'_> {
 
     /// The lowest road on which a later vehicle overtakes.
     pub fn lowest_overtaken(&self) -> Option<u32>
-        ensures { result ≡ find (λ r. falls_in (run_at self.now.points.now self.now.loaded.files r)) (range_with_len 0 self.now.loaded.roads) }
+        ensures lowest_that_falls { result ≡ find (λ r. falls_in (run_at self.now.points.now self.now.loaded.files r)) (range_with_len 0 self.now.loaded.roads) }
     {
         (0..self.loaded.roads).find(|road| self.is_overtaken(*road))
     }

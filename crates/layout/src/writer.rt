@@ -29,7 +29,7 @@ impl Writer<'_> {
     /// Writes a number and the mark after it.
     fn put_field(&mut self, n: u32, mark: u8)
         requires { HasRoom self.old (field n mark) }
-        ensures { Wrote self.old self.new (field n mark) }
+        ensures wrote_field { Wrote self.old self.new (field n mark) }
     {
         let buffer = &mut *self.buffer;
         let end = put_number(buffer, self.at, n);
@@ -40,7 +40,7 @@ impl Writer<'_> {
     /// Writes a line.
     fn put_line(&mut self, node: u32, point: Point)
         requires { HasRoom self.old (line_text node point) }
-        ensures { Wrote self.old self.new (line_text node point) }
+        ensures wrote_line { Wrote self.old self.new (line_text node point) }
     {
         self.put_field(node, b',');
         self.put_field(point.departure, b',');
@@ -52,7 +52,7 @@ impl Writer<'_> {
     /// Writes the lines of a row.
     fn put_row(&mut self, node: u32, pairs: &[[u32; 2]])
         requires { HasRoom self.old (row_text node (map point_of pairs.now)) }
-        ensures { Wrote self.old self.new (row_text node (map point_of pairs.now)) }
+        ensures wrote_row { Wrote self.old self.new (row_text node (map point_of pairs.now)) }
     {
         for pair in pairs {
             self.put_line(node, point_of(pair));
@@ -62,7 +62,7 @@ impl Writer<'_> {
     /// Writes the lines of all rows.
     pub fn put_rows(&mut self, cells: &Cells)
         requires { HasRoom self.old (body_text 1 (rows cells.now.numbers.now cells.now.width cells.now.nodes)) }
-        ensures { Wrote self.old self.new (body_text 1 (rows cells.now.numbers.now cells.now.width cells.now.nodes)) }
+        ensures wrote_rows { Wrote self.old self.new (body_text 1 (rows cells.now.numbers.now cells.now.width cells.now.nodes)) }
     {
         for v in 0..cells.nodes {
             self.put_row(v + 1, cells.pairs(v));
@@ -72,7 +72,7 @@ impl Writer<'_> {
     /// Writes the first line.
     pub fn put_header(&mut self)
         requires { HasRoom self.old header }
-        ensures { Wrote self.old self.new header }
+        ensures wrote_header { Wrote self.old self.new header }
     {
         let end = self.at + HEADER_LENGTH;
         self.buffer[self.at..end].copy_from_slice(HEADER);

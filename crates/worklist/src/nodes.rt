@@ -46,7 +46,7 @@ impl NodeSet {
 
     /// The bound.
     pub fn bound(&self) -> u32
-        ensures { result ≡ bound_of self.now }
+        ensures bound_is { result ≡ bound_of self.now }
     {
         self.bound
     }
@@ -66,7 +66,7 @@ impl NodeSet {
     /// Takes out a node.
     pub fn remove(&mut self, node: u32)
         requires { node < bound_of self.old }
-        ensures { SetsMark self.old node false self.new }
+        ensures taken_out { SetsMark self.old node false self.new }
     {
         self.marks[node as usize] = false;
     }

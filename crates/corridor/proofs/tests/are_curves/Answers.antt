@@ -32,7 +32,7 @@ returns-then-is_sorted c =
     let rises = non_decreasing_from_is_sorted up true c.if-is_sorted.ensures.cases in
     record {
       curves_if_so = when c.are_ordered.result (λ e.
-          let all = e ∙ c.are_ordered.ensures in
+          let all = e ∙ c.are_ordered.ensures.in_order in
           record {
             same = omega arith;
             some = omega arith;

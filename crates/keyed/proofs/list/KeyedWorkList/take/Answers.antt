@@ -13,9 +13,9 @@ invariant_of-self-2 c =
     let l = c.args.self.now in
     let x = c.in_ok-first.first in
     let bag = c.in_ok-first.ensures.loses_or_lacks.bag in
-    record { space = omega (arith, c.in_ok-first.ensures.room, l.space); tally = take_tally l x c.pop.new.self bag c.remove.new.self c.remove.ensures; once = take_once l x c.pop.new.self bag c.remove.new.self c.remove.ensures }
+    record { space = omega (arith, c.in_ok-first.ensures.room, l.space); tally = take_tally l x c.pop.new.self bag c.remove.new.self c.remove.ensures.taken_out; once = take_once l x c.pop.new.self bag c.remove.new.self c.remove.ensures.taken_out }
 
 pub returns : goal.returns
 returns c =
     let popped = c.in_ok-first.ensures.loses_or_lacks in
-    record { takes = record { key = c.in_ok-first.first.key; bound = c.remove.ensures.bound; first = popped.least; bag = popped.bag } }
+    record { takes = record { key = c.in_ok-first.first.key; bound = c.remove.ensures.taken_out.bound; first = popped.least; bag = popped.bag } }

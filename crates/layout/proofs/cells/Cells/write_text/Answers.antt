@@ -8,5 +8,5 @@ pub returns-clause-writes_text_alone : goal.returns-clause-writes_text_alone
 returns-clause-writes_text_alone c =
     let self = c.args.self.now in
     let lines = body_text 1 (rows self.numbers.now self.width self.nodes) in
-    let all = wrote_more _ c.put_header.new.self header lines (omega (arith, c.requires)) c.put_header.ensures _ c.put_rows.ensures in
+    let all = wrote_more _ c.put_header.new.self header lines (omega (arith, c.requires)) c.put_header.ensures.wrote_header _ c.put_rows.ensures.wrote_rows in
     search (rules, all.same_buffer) ∙ all.writes_alone

@@ -10,9 +10,11 @@ returns c =
     let buffer = c.args.self.now.buffer.now in
     let e : at + 24 - at ≡ 24 = omega arith in
     record {
-      ends_after = refl;
-      writes_alone = ap (λ (n : ℕ). put_mid at n buffer c.copy_from_slice.new.self) e
-          ∙ ap (put_mid at 24 buffer) c.copy_from_slice.ensures.after
-          ∙ ap (λ (xs : List ℕ). take at buffer ++ (header ++ xs)) (drop-drop 24 at buffer);
-      same_buffer = refl;
+      wrote_header = record {
+        ends_after = refl;
+        writes_alone = ap (λ (n : ℕ). put_mid at n buffer c.copy_from_slice.new.self) e
+            ∙ ap (put_mid at 24 buffer) c.copy_from_slice.ensures.after
+            ∙ ap (λ (xs : List ℕ). take at buffer ++ (header ++ xs)) (drop-drop 24 at buffer);
+        same_buffer = refl;
+      };
     }

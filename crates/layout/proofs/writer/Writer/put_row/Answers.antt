@@ -14,4 +14,4 @@ pub loop-pair-preserved : goal.loop-pair-preserved
 loop-pair-preserved c =
     let fits = line_fits c.args.node c.args.pairs.now c.loop-pair.pair-index c.point_of.result c.point_of.ensures.departure_then_arrival c.loop-pair-test.true in
     rw (row_more c.args.node c.args.pairs.now c.loop-pair.pair-index c.point_of.result c.point_of.ensures.departure_then_arrival c.loop-pair-test.true)
-    (wrote_more c.args.self.now c.loop-pair.self (row_text c.args.node (take c.loop-pair.pair-index (map point_of c.args.pairs.now))) (line_text c.args.node c.point_of.result) (omega (arith, fits, c.requires)) c.loop-pair.invariant _ c.put_line.ensures)
+    (wrote_more c.args.self.now c.loop-pair.self (row_text c.args.node (take c.loop-pair.pair-index (map point_of c.args.pairs.now))) (line_text c.args.node c.point_of.result) (omega (arith, fits, c.requires)) c.loop-pair.invariant _ c.put_line.ensures.wrote_line)

@@ -21,5 +21,5 @@ loop-v-preserved c =
     let width = c.args.cells.now.width in
     let v = c.loop-v.v in
     let fits = row_fits cells width v c.args.cells.now.nodes c.loop-v-test.true in
-    let wrote = subst (λ (ps : List Point). Wrote c.loop-v.self c.put_row.new.self (row_text (v + 1) ps)) c.pairs.ensures.takes_row c.put_row.ensures in
+    let wrote = subst (λ (ps : List Point). Wrote c.loop-v.self c.put_row.new.self (row_text (v + 1) ps)) c.pairs.ensures.takes_row c.put_row.ensures.wrote_row in
     rw (body_more cells width v) (wrote_more c.args.self.now c.loop-v.self (before cells width v) (one cells width v) (omega (arith, fits, c.requires)) c.loop-v.invariant _ wrote)

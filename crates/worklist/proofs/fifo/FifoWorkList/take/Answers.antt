@@ -13,7 +13,7 @@ invariant_of-self c =
     let l = c.args.self.now in
     let rest = c.in_ok-rest.rest in
     let one : rest + 1 ≡ l.count = omega (arith, c.in_ok-rest.ensures) in
-    record { sizes = (omega arith, l.sizes.1); tally = take_size l rest one c.remove.new.self c.remove.ensures; once = take_once l rest one c.remove.new.self c.remove.ensures }
+    record { sizes = (omega arith, l.sizes.1); tally = take_size l rest one c.remove.new.self c.remove.ensures.taken_out; once = take_once l rest one c.remove.new.self c.remove.ensures.taken_out }
 
 pub returns : goal.returns
-returns c = record { takes = (c.remove.ensures.bound, take_line c.args.self.now c.in_ok-rest.rest (omega (arith, c.in_ok-rest.ensures))) }
+returns c = record { takes = (c.remove.ensures.taken_out.bound, take_line c.args.self.now c.in_ok-rest.rest (omega (arith, c.in_ok-rest.ensures))) }
