@@ -13,10 +13,10 @@ use Rattle.worklist.specs.Work.{Idle}
 use Rattle.worklist.specs.NodeSets.{bound_of, has, size, IsEmpty, SetsMark, EachOnce}
 use Rattle.worklist.specs.Lines.{times_cons_same, times_cons_other}
 use Rattle.worklist.proofs.Marking as marking
-use Rattle.queue.specs.Bags.{Bag, Gains, Refuses}
+use Rattle.queue.specs.Bags.{Bag, Sound, room, sound_once, Gains, Refuses}
 use Rattle.keyed.specs.declared.node.KeyedNode.{KeyedNode}
 use Rattle.keyed.specs.declared.list.Keyed.{Keyed}
-use Rattle.keyed.specs.Order.{with_key, nodes_of, times, among}
+use Rattle.keyed.specs.Order.{node_cmp, with_key, nodes_of, times, among}
 use Rattle.keyed.specs.Lists.{entries, waits, keyed_work, times_shuffled}
 
 -- two lists of the same nodes and the same queue are one
@@ -24,7 +24,8 @@ pub same_list : (l m : Keyed) → m.nodes ≡ l.nodes → m.queue ≡ l.queue �
 same_list l m p q = λ i. record {
   nodes = p i;
   queue = q i;
-  space = is_prop→PathP (λ j. 1024 ≤ (q j).room) (λ j. le_prop) m.space l.space i;
+  sound = is_prop→PathP (λ j. Sound node_cmp (q j)) (λ j. sound_once node_cmp (q j)) m.sound l.sound i;
+  space = is_prop→PathP (λ j. 1024 ≤ room (q j)) (λ j. le_prop) m.space l.space i;
   tally = is_prop→PathP (λ j. size (p j) ≡ length (q j).entries) (λ j. ℕ_set _ _) m.tally l.tally i;
   once = is_prop→PathP (λ j. EachOnce (p j) (λ v. times v (q j).entries)) (λ j. Π_prop (λ v. ℕ_set _ _)) m.once l.once i;
 }
@@ -41,7 +42,7 @@ module _ (l : Keyed) (v key : ℕ) (t : NodeSet) (off : has l.nodes v ≡ false)
   abbrev pub x : KeyedNode
   x = with_key key v
 
-  pub not_full : length (entries l) ≡ l.queue.room → ⊥
+  pub not_full : length (entries l) ≡ room l.queue → ⊥
   not_full full = omega (arith, marking.put_room l.nodes t v off low puts, l.tally, l.space)
 
   -- the push is answered, as there was room

@@ -1,7 +1,8 @@
 ghost use Rattle.std.specs.Prelude.{◌≡◌, ℕ, ◌<◌, ◌≤◌, [], length, MatchResult};
 ghost use Rattle.refusal.specs.declared.Refusal.TheVariants.{Short};
 ghost use Rattle.worklist.specs.NodeSets.{size, EachOnce};
-ghost use Rattle.keyed.specs.Order.{times};
+ghost use Rattle.queue.specs.Bags.{Sound, room, sound_once};
+ghost use Rattle.keyed.specs.Order.{node_cmp, times};
 
 use crate::KeyedNode;
 use queue::Queue;
@@ -15,7 +16,8 @@ pub struct Keyed<'a> {
     /// The waiting nodes.
     nodes: NodeSet,
     queue: Queue<'a, KeyedNode>,
-    ghost space: { 1024 ≤ queue.room },
+    ghost sound: { Sound node_cmp queue } by { sound_once node_cmp queue },
+    ghost space: { 1024 ≤ room queue },
     ghost tally: { size nodes ≡ length queue.entries },
     ghost once: { EachOnce nodes (λ v. times v queue.entries) },
 }

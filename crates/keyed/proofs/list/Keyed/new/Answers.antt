@@ -5,4 +5,4 @@ use Rattle.keyed.proofs.list.Keyed.new.Goals as goal
 pub invariant_of-result : goal.invariant_of-result
 invariant_of-result c =
     let queue = c.new-2.ensures in
-    record { space = omega (arith, queue.room); tally = blank_tally c.new.result _ c.new.ensures.empty queue.empty; once = blank_once c.new.result _ c.new.ensures.empty queue.empty }
+    record { sound = queue.sound; space = omega (arith, queue.room); tally = blank_tally c.new.result _ c.new.ensures.empty queue.empty; once = blank_once c.new.result _ c.new.ensures.empty queue.empty }

@@ -6,4 +6,4 @@ pub invariant_of-self : goal.invariant_of-self
 invariant_of-self c =
     let queue = c.clear.ensures in
     let off = c.in_ok-self.ensures.makes_or_refuses.3 in
-    record { space = omega (arith, queue.room, c.args.self.now.space); tally = blank_tally c.in_ok-self.field-0 _ off queue.empty; once = blank_once c.in_ok-self.field-0 _ off queue.empty }
+    record { sound = queue.sound; space = omega (arith, queue.room, c.args.self.now.space); tally = blank_tally c.in_ok-self.field-0 _ off queue.empty; once = blank_once c.in_ok-self.field-0 _ off queue.empty }

@@ -19,4 +19,4 @@ invariant_of-self-then-branch c =
     let added = c.in_ok-insert.ensures.adds_or_refuses in
     let off = added.1 ∙ ap not c.if-branch.true in
     let gained = gains l v key t off added.0 added.2 q c.push.result c.push.ensures.gains_or_refuses in
-    record { space = omega (arith, c.push.ensures.room, l.space); tally = put_tally l v key t off added.0 added.2 q gained; once = put_once l v key t off added.0 added.2 q gained }
+    record { sound = c.push.ensures.sound l.sound; space = omega (arith, c.push.ensures.room, l.space); tally = put_tally l v key t off added.0 added.2 q gained; once = put_once l v key t off added.0 added.2 q gained }
