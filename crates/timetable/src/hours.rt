@@ -22,7 +22,7 @@ impl Hours<'_> {
     fn next_open(&self, k: u32) -> Option<Interval>
         ensures first_or_none { result ≡ find (λ (i : Interval). nat_le k i.closes) self.now.intervals.now }
     {
-        self.intervals.iter().copied().find(|i| k <= i.closes)
+        self.intervals.iter().find(|i| k <= i.closes).copied()
     }
 
     /// The first minute from `k` on that lies in an interval of this period, else of the next.
